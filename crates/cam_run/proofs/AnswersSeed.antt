@@ -17,38 +17,39 @@ use Rattle.cam_gen.proofs.AllAccepted.{each_is_accepted}
 use Rattle.cam_run.specs.declared.answer.Answer.{Answer}
 use Rattle.cam_run.specs.Status.{number}
 use Rattle.cam_run.specs.declared.question.Question.TheVariants.{Summary}
-use Rattle.cam_run.specs.Answer.{Failing, IsOfCommand, IsOfScript}
+use Rattle.cam_run.specs.Answer.{IsOfCommand, IsOfScript, Outcome}
+use Rattle.cam_run.specs.Disks.{DisksLeft}
 use Rattle.cam_run.proofs.Commanded.{same_command, of_unread}
 
 -- `gen` answers by the script of its seed, and leaves the source as it is
-pub answers_seed : {E : Type 0} (command : Command) (seed size : ℕ) (failing : Failing)
-    (keep : Words → List Event → Type 0) (left : Option (List ℕ)) (r : Result Answer E)
+pub answers_seed : {E : Type 0} (command : Command) (seed size : ℕ) (outcome : Outcome)
+    (left : Option (List ℕ)) (r : Result Answer E)
     → command ≡ Gen seed size
     → IfOk r
-    (λ a. IsOfScript (Summary size) (read_script (generated seed size)) failing.disk
+    (λ a. IsOfScript (Summary size) (read_script (generated seed size)) outcome.disks
     (number a.status) a.text.items)
     → IfTold left left
     (λ input _.
-    IfOk r (λ a. IsOfCommand command failing keep input (number a.status) a.text.items))
-answers_seed command seed size failing keep left r is told =
+    IfOk r (λ a. IsOfCommand command outcome input (number a.status) a.text.items))
+answers_seed command seed size outcome left r is told =
     subst
     (λ (c : Command).
     IfTold left left
-    (λ input _. IfOk r (λ a. IsOfCommand c failing keep input (number a.status) a.text.items)))
+    (λ input _. IfOk r (λ a. IsOfCommand c outcome input (number a.status) a.text.items)))
     (sym is)
     (of_unread left
     (λ (input : List ℕ).
-    IfOk r (λ a. IsOfCommand (Gen seed size) failing keep input (number a.status) a.text.items))
+    IfOk r (λ a. IsOfCommand (Gen seed size) outcome input (number a.status) a.text.items))
     (λ input. IfOk-weaker r _ _ (λ a answer. inr answer) told))
 
 -- the script of a seed is accepted, so its summary is answered, or a disk failed
-pub seed_is_done : {E : Type 0} (seed size : ℕ) (failed : ℕ → Type 0) (r : Result Answer E)
+pub seed_is_done : {E : Type 0} (seed size : ℕ) (disks : DisksLeft) (r : Result Answer E)
     → size ≤ 400
     → IfOk r
-    (λ a. IsOfScript (Summary size) (read_script (generated seed size)) failed (number a.status)
+    (λ a. IsOfScript (Summary size) (read_script (generated seed size)) disks (number a.status)
     a.text.items)
     → IfOk r (λ a. (number a.status ≡ 0) ⊎ (number a.status ≡ 6))
-seed_is_done seed size failed r few told =
+seed_is_done seed size disks r few told =
     IfOk-weaker r _ _
     (λ a is.
     by (number a.status) a.text.items (read_script (generated seed size))
@@ -56,7 +57,7 @@ seed_is_done seed size failed r few told =
     told
   where
     by : (status : ℕ) (text : List ℕ) (read : Result Script ScriptFault) → IsOk read
-        → IsOfScript (Summary size) read failed status text
+        → IsOfScript (Summary size) read disks status text
         → (status ≡ 0) ⊎ (status ≡ 6)
     by status text (Ok script) ok (inl of_disk) = inr of_disk.is
     by status text (Ok script) ok (inr of) = inl of.told.0

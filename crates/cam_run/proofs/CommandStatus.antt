@@ -5,7 +5,6 @@ use Rattle.cam_know.specs.declared.Reason.{Reason}
 use Rattle.cam_names.specs.declared.name.Name.{Name}
 use Rattle.cam_event.specs.declared.Event.{Event}
 use Rattle.cam_event.specs.declared.Mark.{Mark}
-use Rattle.cam_gen.specs.Storms.{Words}
 use Rattle.cam_args.specs.declared.Command.{Command}
 use Rattle.cam_script.specs.declared.Script.{Script}
 use Rattle.cam_script.specs.Grammar.{read_script}
@@ -25,8 +24,8 @@ use Rattle.cam_image.specs.declared.fault.ImageFault.TheVariants.{NotALog, BadRe
 use Rattle.cam_image.specs.declared.fault.ImageFault.TheVariants.{NoMemory as NoMemoryOfImage}
 use Rattle.cam_run.specs.Commands.{Asked, asked_by, by_time, bytes_for, of_image, of_run, of_storm}
 use Rattle.cam_run.specs.Image.{IsOfImage, image_status, made}
-use Rattle.cam_run.specs.Disks.{OneFailed}
-use Rattle.cam_run.specs.Answer.{Failing, IsAsked, IsOfCommand, IsOfScript, IsOfTimed, IsRefused}
+use Rattle.cam_run.specs.Disks.{DisksLeft, OneFailed}
+use Rattle.cam_run.specs.Answer.{IsAsked, IsOfCommand, IsOfScript, IsOfTimed, IsRefused, Outcome}
 use Rattle.cam_run.specs.Answer.{asked_nodes, asked_status, command_status, nodes_for, nodes_of}
 use Rattle.cam_run.specs.Answer.{refused_status, status_of, timed_status}
 
@@ -59,18 +58,18 @@ refused_has_status (Bad line column cause) status text told = told.0
 refused_has_status NoMemory status text told = absurd told
 
 -- where no disk of the script's nodes failed
-script_has_status : (question : Question) (read : Result Script ScriptFault) (failed : ℕ → Type 0)
+script_has_status : (question : Question) (read : Result Script ScriptFault) (disks : DisksLeft)
     (status : ℕ) (text : List ℕ)
-    → IsOfScript question read failed status text → (OneFailed (nodes_of read) failed → ⊥)
+    → IsOfScript question read disks status text → (OneFailed (nodes_of read) disks.failed → ⊥)
     → status ≡ status_of question read
-script_has_status question (Ok script) failed status text (inl of_disk) none =
+script_has_status question (Ok script) disks status text (inl of_disk) none =
     absurd (none of_disk.one)
-script_has_status question (Ok script) failed status text (inr of) none =
+script_has_status question (Ok script) disks status text (inr of) none =
     told_has_status question script (halted_events script of.halts)
     (halted_run script of.halts).running.marks status text of.told
     ∙ ap (λ (st : Standing). told_status question st.running.trace)
     (of.known.one (λ s fell. none (record { node = s; high = fell.0; did = fell.1 })))
-script_has_status question (Err fault) failed status text told none =
+script_has_status question (Err fault) disks status text told none =
     refused_has_status fault status text told
 
 timed_has_status : (read : Result TimedScript ScriptFault) (status : ℕ) (text : List ℕ)
@@ -87,20 +86,19 @@ image_has_status (Err NoMemoryOfImage) status text told = absurd told
 
 -- the status of the answer to a command, where neither the source nor a disk of the script's nodes
 -- failed
-pub command_has_status : (command : Command) (failing : Failing)
-    (keep : Words → List Event → Type 0) (input : List ℕ) (status : ℕ) (text : List ℕ)
-    → IsOfCommand command failing keep input status text
-    → (failing.source → ⊥) → (OneFailed (nodes_for command input) failing.disk → ⊥)
+pub command_has_status : (command : Command) (outcome : Outcome) (input : List ℕ)
+    (status : ℕ) (text : List ℕ) → IsOfCommand command outcome input status text
+    → (outcome.source_failed → ⊥) → (OneFailed (nodes_for command input) outcome.disks.failed → ⊥)
     → status ≡ command_status command input
-command_has_status command failing keep input status text told whole none =
+command_has_status command outcome input status text told whole none =
     by (asked_by command) told none
   where
-    by : (asked : Asked) → IsAsked asked command failing keep input status text
-        → (OneFailed (asked_nodes asked command input) failing.disk → ⊥)
+    by : (asked : Asked) → IsAsked asked command outcome input status text
+        → (OneFailed (asked_nodes asked command input) outcome.disks.failed → ⊥)
         → status ≡ asked_status asked command input
     by (of_run question) (inl (reading, failed, told)) none = absurd (whole failed)
     by (of_run question) (inr answer) none =
-        script_has_status question (read_script (bytes_for command input)) failing.disk status text
+        script_has_status question (read_script (bytes_for command input)) outcome.disks status text
         answer none
     by (of_image making) (inl (failed, told)) none = absurd (whole failed)
     by (of_image making) (inr answer) none = image_has_status (made making input) status text answer

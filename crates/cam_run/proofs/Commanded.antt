@@ -17,7 +17,7 @@ use Rattle.cam_cluster.specs.declared.fault.RunFault.TheVariants as faults
 use Rattle.cam_run.specs.declared.status.Status.TheVariants as statuses
 use Rattle.cam_run.specs.Texts.{disk_fault_text}
 use Rattle.cam_run.specs.Disks.{IsCaused, IsNamed, OneFailed}
-use Rattle.cam_run.specs.Answer.{Failing, IsAnswer, IsOfCommand, IsOfDisk, IsOfStorm, NamesDisk}
+use Rattle.cam_run.specs.Answer.{IsAnswer, IsOfCommand, IsOfDisk, IsOfStorm, NamesDisk, Outcome}
 use Rattle.cam_run.specs.Answer.{command_status, nodes_for}
 use Rattle.cam_run.specs.Commands.{storm_of}
 use Rattle.cam_run.proofs.CommandStatus.{command_has_status}
@@ -77,57 +77,57 @@ of_words words command P old new finds told =
 
 -- the answer to a command, from what is told of it before it is known whether it was made, and
 -- whether the source tells its bytes
-pub answers_words : {E : Type 0} (words : List (List ℕ)) (command : Command) (failing : Failing)
-    (keep : Words → List Event → Type 0) (old new : Option (List ℕ)) (r : Result Answer E)
+pub answers_words : {E : Type 0} (words : List (List ℕ)) (command : Command) (outcome : Outcome)
+    (old new : Option (List ℕ)) (r : Result Answer E)
     → IsForm words command
     → IfTold old new
     (λ input _.
-    IfOk r (λ a. IsOfCommand command failing keep input (number a.status) a.text.items))
+    IfOk r (λ a. IsOfCommand command outcome input (number a.status) a.text.items))
     → IfTold old new
-    (λ input _. IfOk r (λ a. IsAnswer words failing keep input (number a.status) a.text.items))
-answers_words words command failing keep old new r form told =
+    (λ input _. IfOk r (λ a. IsAnswer words outcome input (number a.status) a.text.items))
+answers_words words command outcome old new r form told =
     if_told_weaker old new
     (λ input rest said. IfOk-weaker r _ _ (λ a is. inr (command, form, is)) said)
     told
 
 -- and its status
-pub completes_words : {E : Type 0} (words : List (List ℕ)) (command : Command) (failing : Failing)
-    (keep : Words → List Event → Type 0) (old new : Option (List ℕ)) (r : Result Answer E)
+pub completes_words : {E : Type 0} (words : List (List ℕ)) (command : Command) (outcome : Outcome)
+    (old new : Option (List ℕ)) (r : Result Answer E)
     → Finds words (Ok command)
     → IfTold old new
     (λ input _.
-    IfOk r (λ a. IsOfCommand command failing keep input (number a.status) a.text.items))
+    IfOk r (λ a. IsOfCommand command outcome input (number a.status) a.text.items))
     → IfTold old new
     (λ input _. (other : Command) → IsForm words other
     → IfOk r
-    (λ a. (failing.source → ⊥) → (OneFailed (nodes_for other input) failing.disk → ⊥)
+    (λ a. (outcome.source_failed → ⊥) → (OneFailed (nodes_for other input) outcome.disks.failed → ⊥)
     → number a.status ≡ command_status other input))
-completes_words words command failing keep old new r finds told =
+completes_words words command outcome old new r finds told =
     of_words words command
     (λ (c : Command) (input : List ℕ).
     IfOk r
-    (λ a. (failing.source → ⊥) → (OneFailed (nodes_for c input) failing.disk → ⊥)
+    (λ a. (outcome.source_failed → ⊥) → (OneFailed (nodes_for c input) outcome.disks.failed → ⊥)
     → number a.status ≡ command_status c input))
     old new finds
     (if_told_weaker old new
     (λ input rest said.
     IfOk-weaker r _ _
     (λ a is.
-    command_has_status command failing keep input (number a.status) a.text.items is)
+    command_has_status command outcome input (number a.status) a.text.items is)
     said)
     told)
 
 -- the answer to the words of a storm is that to the command that asks for it
 pub storm_answers : {E : Type 0} (command : Command) (storm : Words) (threads : ℕ)
-    (failing : Failing) (keep : Words → List Event → Type 0) (r : Result Answer E)
+    (outcome : Outcome) (r : Result Answer E)
     → command ≡ Storm storm.seed storm.actions threads storm.calm
-    → IfOk r (λ a. IsOfStorm storm failing.disk (keep storm) (number a.status) a.text.items)
+    → IfOk r (λ a. IsOfStorm storm outcome.disks.failed (outcome.disks.keep_storm storm) (number a.status) a.text.items)
     → (input : List ℕ)
-    → IfOk r (λ a. IsOfCommand command failing keep input (number a.status) a.text.items)
-storm_answers command storm threads failing keep r is told input =
+    → IfOk r (λ a. IsOfCommand command outcome input (number a.status) a.text.items)
+storm_answers command storm threads outcome r is told input =
     subst
     (λ (c : Command).
-    IfOk r (λ a. IsOfCommand c failing keep input (number a.status) a.text.items))
+    IfOk r (λ a. IsOfCommand c outcome input (number a.status) a.text.items))
     (sym is) told
 
 -- its numbers are in their ranges
@@ -140,18 +140,18 @@ storm_in_range words command storm threads form is =
     (range.1, range.2)
 
 -- words that are the form of a storm are those of the command that was read
-pub storm_words : {E : Type 0} (words : List (List ℕ)) (command : Command) (failing : Failing)
-    (keep : Words → List Event → Type 0) (r : Result Answer E)
+pub storm_words : {E : Type 0} (words : List (List ℕ)) (command : Command) (outcome : Outcome)
+    (r : Result Answer E)
     → Finds words (Ok command)
-    → IfOk r (λ a. IsOfCommand command failing keep [] (number a.status) a.text.items)
+    → IfOk r (λ a. IsOfCommand command outcome [] (number a.status) a.text.items)
     → (seed actions threads : ℕ) (calm : Bool) → IsForm words (Storm seed actions threads calm)
     → IfOk r
-    (λ a. IsOfStorm (storm_of seed actions calm) failing.disk (keep (storm_of seed actions calm))
-    (number a.status) a.text.items)
-storm_words words command failing keep r finds told seed actions threads calm form =
+    (λ a. IsOfStorm (storm_of seed actions calm) outcome.disks.failed
+    (outcome.disks.keep_storm (storm_of seed actions calm)) (number a.status) a.text.items)
+storm_words words command outcome r finds told seed actions threads calm form =
     subst
     (λ (c : Command).
-    IfOk r (λ a. IsOfCommand c failing keep [] (number a.status) a.text.items))
+    IfOk r (λ a. IsOfCommand c outcome [] (number a.status) a.text.items))
     (same_command words command (Storm seed actions threads calm) finds form) told
 
 -- words of which none was read are the form of no command

@@ -9,4 +9,3 @@ pub mod Imaged
 pub mod FirstDisks
 pub mod LeftDisks
 pub mod Stormed
-pub mod Failing

@@ -22,49 +22,43 @@ use Rattle.cam_why.specs.declared.fault.WhyFault.TheVariants.{NoSuchStop}
 use Rattle.cam_why.proofs.Stops.{runs_are_whole}
 use Rattle.cam_report.specs.Whys.{IsWhyText}
 use Rattle.cam_cluster.specs.WholeRuns.{IsRecordOf}
-use Rattle.cam_cluster.proofs.RunDisks.{known_by}
 use Rattle.cam_run.specs.declared.question.Question.{Question}
 use Rattle.cam_run.specs.Answer.{IsToldRun}
-use Rattle.cam_run.specs.Disks.{FailedAmong}
+use Rattle.cam_run.specs.Disks.{DisksLeft, FailedAmong, IsRunOver}
 use Rattle.cam_run.specs.Texts.{no_stop_text}
 use Rattle.cam_run.specs.Told.{IsOfStop, IsTold}
 
-module _ (script : Script) (failed : ℕ → Type 0) (run : RunRecord)
-    (is : IsRecordOf script (FailedAmong script.nodes failed) run) where
-  abbrev made : Standing
-  made = run_with by_pasts script is.halts
+module _ (script : Script) (disks : DisksLeft) (run : RunRecord) (over : IsRunOver script disks run)
+  where
+    abbrev is : IsRecordOf script (FailedAmong script.nodes disks.failed) run
+    is = over.recorded
 
-  events_are : reverse run.trace ≡ made.running.trace
-  events_are =
-      ap (λ (t : List Event). reverse t) is.is_run.trace ∙ reverse-reverse made.running.trace
+    abbrev made : Standing
+    made = run_with by_pasts script is.halts
 
-  -- The events of the record are those of a run,
-  pub is_whole : IsScript script → IsWhole (reverse run.trace)
-  is_whole is_script =
-      subst (λ (t : List Event). IsWhole t) (sym events_are)
-      (runs_are_whole.halted script.objects (has_number made.taken) made.running.trace
-      (halted_runs_are_runs script (given is.halts) (script_in_range script is_script)))
+    events_are : reverse run.trace ≡ made.running.trace
+    events_are =
+        ap (λ (t : List Event). reverse t) is.is_run.trace ∙ reverse-reverse made.running.trace
 
-  -- and what is told of the record is told of the run.
-  pub told_of_run : (question : Question) (status : ℕ) (text : List ℕ)
-      → IsTold question script (reverse run.trace) run.marks status text
-      → IsToldRun question script failed status text
-  told_of_run question status text told = record {
-    halts = given is.halts;
-    known = is.known;
-    told =
-        subst (λ (z : List Event × List Mark). IsTold question script z.0 z.1 status text)
-        (λ i. (events_are i, is.is_run.marks i)) told;
-  }
+    -- The events of the record are those of a run,
+    pub is_whole : IsScript script → IsWhole (reverse run.trace)
+    is_whole is_script =
+        subst (λ (t : List Event). IsWhole t) (sym events_are)
+        (runs_are_whole.halted script.objects (has_number made.taken) made.running.trace
+        (halted_runs_are_runs script (given is.halts) (script_in_range script is_script)))
 
--- So it is where more disks are known to have failed.
-pub record_by : (script : Script) (failed of : ℕ → Type 0) (run : RunRecord)
-    → ((s : ℕ) → failed s → of s) → IsRecordOf script failed run → IsRecordOf script of run
-record_by script failed of run so is = record {
-  halts = is.halts;
-  is_run = is.is_run;
-  known = known_by script (given is.halts) failed of so is.known;
-}
+    -- and what is told of the record is told of the run.
+    pub told_of_run : (question : Question) (status : ℕ) (text : List ℕ)
+        → IsTold question script (reverse run.trace) run.marks status text
+        → IsToldRun question script disks status text
+    told_of_run question status text told = record {
+      halts = given is.halts;
+      known = is.known;
+      told =
+          subst (λ (z : List Event × List Mark). IsTold question script z.0 z.1 status text)
+          (λ i. (events_are i, is.is_run.marks i)) told;
+      kept = over.kept;
+    }
 
 -- why an event stopped an action, by the record
 pub has_stop : (run : RunRecord) (event : ℕ) (text : List ℕ) → IsWhole (reverse run.trace)

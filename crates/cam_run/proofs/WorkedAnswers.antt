@@ -44,6 +44,7 @@ of_one script text told = record {
     one = λ never. refl;
   };
   told = (refl, told);
+  kept = tt;
 }
 
 -- one node and the register x, which holds this number

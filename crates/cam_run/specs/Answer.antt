@@ -9,7 +9,7 @@
 --   the node that failed, or in the storm
 -- 7 nothing, where memory ran out
 -- 8 where the run has no such action, or no such stop: a line that says so
-use Rattle.std.specs.Prelude.{ℕ, ◌≡◌, ◌≤◌, ◌⊎◌, true, List, ◌++◌, length, take, Option, Result, Ok, Err, IfOk}
+use Rattle.std.specs.Prelude.{ℕ, ◌≡◌, ◌≤◌, ◌⊎◌, true, List, ◌++◌, length, take, Option, Result, Ok, Err}
 use Rattle.cam_args.specs.declared.Command.{Command}
 use Rattle.cam_args.specs.Forms.{IsForm as IsFormOf}
 use Rattle.cam_base.specs.Told.{IfTold}
@@ -30,15 +30,15 @@ use Rattle.cam_run.specs.declared.question.Question.{Question}
 use Rattle.cam_run.specs.Texts.{usage_text, read_fault_text, disk_fault_text, refused_text}
 use Rattle.cam_run.specs.Commands.{Asked, IsForm, asked_by, bytes_for}
 use Rattle.cam_run.specs.Commands.{by_time, of_image, of_run, of_storm, reads}
-use Rattle.cam_run.specs.Disks.{FailedAmong, NoneBefore, OneFailed}
+use Rattle.cam_run.specs.Disks.{DisksLeft, FailedAmong, NoneBefore, OneFailed}
 use Rattle.cam_run.specs.Image.{IsOfImage, image_status, made}
 use Rattle.cam_run.specs.Storm.{IsToldOfStorm}
 use Rattle.cam_run.specs.Told.{IsToldOf, told_status}
 
--- what failed in a call: the source, and of the disks that of the node of a number
-pub record Failing : Type 1 where
-  pub source : Type 0
-  pub disk : ℕ → Type 0
+-- what became of a call: whether its source failed, and what became of the disks
+pub record Outcome : Type 1 where
+  pub source_failed : Type 0
+  pub disks : DisksLeft
 
 -- the answer to a script that is refused
 abbrev pub IsRefused : ScriptFault → ℕ → List ℕ → Type 0
@@ -60,22 +60,24 @@ pub record NamesDisk (nodes : ℕ) (failed : ℕ → Type 0) (status : ℕ) (tex
   pub is : status ≡ 6
   pub names : text ≡ disk_fault_text one.node
 
--- what is told of a run of a script with halts that are known by which disks failed in it
-pub record IsToldRun (question : Question) (script : Script) (failed : ℕ → Type 0) (status : ℕ)
+-- ONE RUN of a script, with halts that are known by which disks failed in it: it is told of, and the
+-- disks keep it.
+pub record IsToldRun (question : Question) (script : Script) (disks : DisksLeft) (status : ℕ)
     (text : List ℕ) : Type 0 where
   pub halts : Halting
-  pub known : AreKnown script halts (FailedAmong script.nodes failed)
+  pub known : AreKnown script halts (FailedAmong script.nodes disks.failed)
   pub told : IsToldOf question script halts status text
+  pub kept : disks.keep script halts
 
 -- the answer to a question about a script
-abbrev pub IsOfRun : Question → Script → (ℕ → Type 0) → ℕ → List ℕ → Type 0
-IsOfRun question script failed status text =
-    NamesDisk script.nodes failed status text ⊎ IsToldRun question script failed status text
+abbrev pub IsOfRun : Question → Script → DisksLeft → ℕ → List ℕ → Type 0
+IsOfRun question script disks status text =
+    NamesDisk script.nodes disks.failed status text ⊎ IsToldRun question script disks status text
 
 -- the answer to a question, by what the bytes spell: a script, or a refusal
-abbrev pub IsOfScript : Question → Result Script ScriptFault → (ℕ → Type 0) → ℕ → List ℕ → Type 0
-IsOfScript question (Ok script) failed status text = IsOfRun question script failed status text
-IsOfScript question (Err fault) failed status text = IsRefused fault status text
+abbrev pub IsOfScript : Question → Result Script ScriptFault → DisksLeft → ℕ → List ℕ → Type 0
+IsOfScript question (Ok script) disks status text = IsOfRun question script disks status text
+IsOfScript question (Err fault) disks status text = IsRefused fault status text
 
 -- the answer by a script by time, as the bytes spell it: the report of its run, or a refusal
 abbrev pub IsOfTimed : Result TimedScript ScriptFault → ℕ → List ℕ → Type 0
@@ -93,41 +95,36 @@ abbrev pub IsOfFault : ℕ → List ℕ → Type 0
 IsOfFault status text = (status ≡ 4) × (text ≡ read_fault_text)
 
 -- the answer to a question by the script that a source gives, which it may have failed to give
-abbrev pub IsOfInput : Question → Failing → List ℕ → ℕ → List ℕ → Type 0
-IsOfInput question failing input status text =
-    (failing.source × IsOfFault status text)
-    ⊎ IsOfScript question (read_script input) failing.disk status text
+abbrev pub IsOfInput : Question → Outcome → List ℕ → ℕ → List ℕ → Type 0
+IsOfInput question outcome input status text =
+    (outcome.source_failed × IsOfFault status text)
+    ⊎ IsOfScript question (read_script input) outcome.disks status text
 
 -- the answer to words that are no form
 abbrev pub IsOfWords : ℕ → List ℕ → Type 0
 IsOfWords status text = (status ≡ 2) × (text ≡ usage_text)
 
--- The answer to a command, by what it asks: the source may have failed to give what it reads. `keep` says whether the disks keep a run of a
--- storm.
-abbrev pub IsAsked : Asked → Command → Failing → (Words → List Event → Type 0) → List ℕ → ℕ → List ℕ
-    → Type 0
-IsAsked (of_run question) command failing keep input status text =
-    ((reads command ≡ true) × failing.source × IsOfFault status text)
-    ⊎ IsOfScript question (read_script (bytes_for command input)) failing.disk status text
-IsAsked (of_image making) command failing keep input status text =
-    (failing.source × IsOfFault status text) ⊎ IsOfImage (made making input) status text
-IsAsked by_time command failing keep input status text =
-    (failing.source × IsOfFault status text) ⊎ IsOfTimed (read_timed input) status text
-IsAsked (of_storm storm) command failing keep input status text =
-    IsOfStorm storm failing.disk (keep storm) status text
+-- The answer to a command, by what it asks: the source may have failed to give what it reads.
+abbrev pub IsAsked : Asked → Command → Outcome → List ℕ → ℕ → List ℕ → Type 0
+IsAsked (of_run question) command outcome input status text =
+    ((reads command ≡ true) × outcome.source_failed × IsOfFault status text)
+    ⊎ IsOfScript question (read_script (bytes_for command input)) outcome.disks status text
+IsAsked (of_image making) command outcome input status text =
+    (outcome.source_failed × IsOfFault status text) ⊎ IsOfImage (made making input) status text
+IsAsked by_time command outcome input status text =
+    (outcome.source_failed × IsOfFault status text) ⊎ IsOfTimed (read_timed input) status text
+IsAsked (of_storm storm) command outcome input status text =
+    IsOfStorm storm outcome.disks.failed (outcome.disks.keep_storm storm) status text
 
-abbrev pub IsOfCommand : Command → Failing → (Words → List Event → Type 0) → List ℕ → ℕ → List ℕ
-    → Type 0
-IsOfCommand command failing keep input status text =
-    IsAsked (asked_by command) command failing keep input status text
+abbrev pub IsOfCommand : Command → Outcome → List ℕ → ℕ → List ℕ → Type 0
+IsOfCommand command outcome input status text =
+    IsAsked (asked_by command) command outcome input status text
 
 -- The answer to words and an input, which a source may have failed to give.
-abbrev pub IsAnswer : List (List ℕ) → Failing → (Words → List Event → Type 0) → List ℕ → ℕ → List ℕ
-    → Type 0
-IsAnswer words failing keep input status text =
+abbrev pub IsAnswer : List (List ℕ) → Outcome → List ℕ → ℕ → List ℕ → Type 0
+IsAnswer words outcome input status text =
     ((¬ IsForm words) × IsOfWords status text)
-    ⊎ ((command : Command) × IsFormOf words command
-    × IsOfCommand command failing keep input status text)
+    ⊎ ((command : Command) × IsFormOf words command × IsOfCommand command outcome input status text)
 
 -- What was written after what stood there, by which statuses and texts are answers: the whole text of
 -- one; where the sink failed a prefix of some answer's text; where memory ran out nothing.
@@ -179,11 +176,3 @@ asked_nodes _ command input = 0
 
 abbrev pub nodes_for : Command → List ℕ → ℕ
 nodes_for command input = asked_nodes (asked_by command) command input
-
--- what holds of the script that a command runs over disks, if it runs one and its bytes spell it
-abbrev pub IfAskedRuns : Asked → Command → List ℕ → (Script → Type 0) → Type 0
-IfAskedRuns (of_run question) command input R = IfOk (read_script (bytes_for command input)) R
-IfAskedRuns _ command input R = Unit {0}
-
-abbrev pub IfRuns : Command → List ℕ → (Script → Type 0) → Type 0
-IfRuns command input R = IfAskedRuns (asked_by command) command input R

@@ -1,7 +1,8 @@
--- The disks of a call: which of them failed in it, and what the run of a script leaves of those of
--- its nodes.
+-- The disks of a call: which of them failed in it, and which run those of its nodes keep.
 use Rattle.std.specs.Prelude.{◌≡◌, ◌⊎◌, ℕ, ◌<◌, ◌≤◌, Bool, true, false, List, take}
 use Rattle.cam_event.specs.declared.Event.{Event}
+use Rattle.cam_event.specs.declared.RunRecord.{RunRecord}
+use Rattle.cam_gen.specs.Storms.{Words}
 use Rattle.cam_node.specs.Kept.{IsKept}
 use Rattle.cam_node.specs.Log.{Logged}
 use Rattle.cam_runs.specs.Halts.{Halt, Halting, given}
@@ -11,9 +12,10 @@ use Rattle.cam_cluster.specs.declared.fault.RunFault.{RunFault}
 use Rattle.cam_cluster.specs.declared.fault.RunFault.TheVariants.{DiskFault, NoMemory}
 use Rattle.cam_cluster.specs.Disks.{AreLogs, MayReadDisk}
 use Rattle.cam_cluster.specs.FoundHalts.{IsPutIn}
-use Rattle.cam_cluster.specs.KnownHalts.{AreKnown}
 use Rattle.cam_cluster.specs.HandedBack.{HasFailed}
+use Rattle.cam_cluster.specs.WholeRuns.{IsRecordOf}
 use Rattle.cam_headline.specs.Headline.{halted_events, halted_run}
+use Rattle.cam_run.specs.Storm.{KeepStorm}
 
 -- the node whose disk failed by itself, between what was handed in and what is handed back
 abbrev pub FailedAt : {D : Type 0} → (D → ℕ) → List D → List D → ℕ → Type 0
@@ -79,15 +81,35 @@ LeavesHaltedLogs script halts may_recover =
     (s : ℕ) → 1 ≤ s → s ≤ script.nodes → has_number (halted_run script halts).halted s ≡ true
     → LeavesEither script halts s (may_recover s)
 
--- What the run of a script leaves on the disks of its nodes, by which disks failed in it: whatever a
+-- What the disks of its nodes keep of the run of a script in which these inputs are halts: whatever a
 -- crash now leaves of one is the log of a node; what may be recovered from that of a node that is
 -- not halted at the end is what the node kept; and from that of one that is halted it is that, or
--- what the node would have kept with the event at which it halted. It is so of a run with halts that
--- are known.
-pub record LeavesDisks {D : Type 0} (failed : ℕ → Type 0) (tells : D → Bool) (moment : D → ℕ)
-    (left_since : D → ℕ → List ℕ → Type 0) (script : Script) (disks : List D) : Type 0 where
-  pub halts : Halting
-  pub known : AreKnown script halts (FailedAmong script.nodes failed)
+-- what the node would have kept with the event at which it halted.
+pub record KeepRun {D : Type 0} (tells : D → Bool) (moment : D → ℕ)
+    (left_since : D → ℕ → List ℕ → Type 0) (disks : List D) (script : Script)
+    (halts : Halting) : Type 0 where
   pub logs : AreLogs tells moment left_since (take script.nodes disks)
   pub kept : LeavesLogs script halts (MayReadDisk tells moment left_since disks)
   pub halted : LeavesHaltedLogs script halts (MayReadDisk tells moment left_since disks)
+
+-- What became of the disks in a call: that of which node failed, and which run of a script or of a
+-- storm they keep.
+pub record DisksLeft : Type 1 where
+  pub failed : ℕ → Type 0
+  pub keep : Script → Halting → Type 0
+  pub keep_storm : Words → List Event → Type 0
+
+abbrev pub disks_left : {D : Type 0} → (D → Bool) → (D → ℕ) → (D → ℕ) → (D → ℕ → List ℕ → Type 0)
+    → List D → List D → DisksLeft
+disks_left tells faults_of moment left_since before after =
+    record {
+      failed = FailedAt faults_of before after;
+      keep = KeepRun tells moment left_since after;
+      keep_storm = KeepStorm tells moment left_since after;
+    }
+
+-- The record is that of a run of the script with halts that are known by which disks failed in it, and
+-- the disks keep that very run.
+pub record IsRunOver (script : Script) (disks : DisksLeft) (run : RunRecord) : Type 0 where
+  pub recorded : IsRecordOf script (FailedAmong script.nodes disks.failed) run
+  pub kept : disks.keep script (given recorded.halts)

@@ -3,6 +3,7 @@ use Rattle.std.specs.Prelude.{ℕ, List, [], ◌∷◌, ◌++◌, codes, flat_ma
 use Rattle.cam_script.specs.Grammar.{read_script}
 use Rattle.cam_run.specs.declared.question.Question.TheVariants.{Report}
 use Rattle.cam_run.specs.Answer.{IsOfScript}
+use Rattle.cam_run.specs.Disks.{DisksLeft}
 
 -- lines, each with its LF
 abbrev pub text : List (List ℕ) → List ℕ
@@ -73,8 +74,13 @@ abbrev pub unknown_line_text : List ℕ
 unknown_line_text = text (codes "refused 3 1 S3" ∷ [])
 
 -- no disk fails
-abbrev pub none : ℕ → Type 0
-none s = ⊥
+abbrev pub none : DisksLeft
+none =
+    record {
+      failed = λ s. ⊥;
+      keep = λ script halts. Unit {0};
+      keep_storm = λ storm t. Unit {0};
+    }
 
 -- The answers are these statuses and texts.
 pub record AreWorked : Type 0 where

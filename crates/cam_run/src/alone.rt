@@ -8,9 +8,8 @@ ghost use Rattle.cam_run.specs.declared.status.Status.TheVariants as statuses;
 ghost use Rattle.cam_run.specs.Status.{number};
 ghost use Rattle.cam_run.specs.Told.{IsTelling, MayObey};
 ghost use Rattle.cam_run.specs.Commands.{needs_threads, reads, uses_disks};
-ghost use Rattle.cam_run.specs.Disks.{FailedAt, LeavesDisks, OneFailed};
-ghost use Rattle.cam_run.specs.Answer.{IfRuns, IsOfCommand, IsWritten, command_status, nodes_for};
-ghost use Rattle.cam_run.specs.Storm.{KeepStorm};
+ghost use Rattle.cam_run.specs.Disks.{FailedAt, OneFailed, disks_left};
+ghost use Rattle.cam_run.specs.Answer.{IsOfCommand, IsWritten, command_status, nodes_for};
 
 use crate::answer::Answer;
 use crate::image::{Making, of_image};
@@ -47,13 +46,14 @@ pub fn camelot_alone<S: Source, K: Sink, D: TellingDisk, R: DataType, Q: DataTyp
     ensures disk_fault { result ≡ 6
         → OneFailed 8 (FailedAt D.faults disks.old.items disks.new.items) }
 
-    // What was written, and that nothing else keeps an accepted or a refused script from its answer.
+    // What was written, with the run that the disks keep, as `camelot` says; and that nothing else keeps an accepted or a refused script
+    // from its answer.
     ensures written { IfTold (S.left source.old) (S.left source.new) (λ input _.
         IsWritten (IsOfCommand command.now (record {
-          source = Rose (S.faults source.old) (S.faults source.new);
-          disk = FailedAt D.faults disks.old.items disks.new.items;
-        })
-        (KeepStorm D.tells D.moment D.left_since disks.new.items) input)
+          source_failed = Rose (S.faults source.old) (S.faults source.new);
+          disks = disks_left D.tells D.faults D.moment D.left_since
+              disks.old.items disks.new.items;
+        }) input)
         result (K.written sink.old) (K.written sink.new)) }
     ensures complete { IfTold (S.left source.old) (S.left source.new) (λ input _.
         ¬ (Rose (S.faults source.old) (S.faults source.new))
@@ -64,20 +64,6 @@ pub fn camelot_alone<S: Source, K: Sink, D: TellingDisk, R: DataType, Q: DataTyp
     // The script that is made from a seed is never refused.
     ensures generated { (seed size : ℕ) → command.now ≡ Gen seed size → size ≤ 400
         → (result ≡ 0) ⊎ ((result ≡ 5) ⊎ ((result ≡ 6) ⊎ (result ≡ 7))) }
-
-    // What the disks of a script's run keep, and where the sink alone failed: as `recovered` and `recovered_unwritten` of `camelot` say.
-    ensures recovered { IfTold (S.left source.old) (S.left source.new) (λ input _.
-        (result ≡ 0) ⊎ (result ≡ 8) → IfRuns command.now input (λ script.
-        LeavesDisks (FailedAt D.faults disks.old.items disks.new.items)
-        D.tells D.moment D.left_since script disks.new.items)) }
-    ensures recovered_unwritten { IfTold (S.left source.old) (S.left source.new) (λ input _.
-        result ≡ 5
-        → ¬ (Rose (S.faults source.old) (S.faults source.new))
-        → ¬ (OneFailed (nodes_for command.now input)
-        (FailedAt D.faults disks.old.items disks.new.items))
-        → IfRuns command.now input (λ script.
-        LeavesDisks (FailedAt D.faults disks.old.items disks.new.items)
-        D.tells D.moment D.left_since script disks.new.items)) }
 
     // The source, read to its end or not at all.
     ensures read { reads command.now ≡ true → (result ≡ 0) ⊎ (result ≡ 8)
@@ -114,10 +100,10 @@ pub(crate) fn obey<S: Source, D: TellingDisk, R: DataType, Q: DataType, C: DataT
     requires eight { 8 ≤ length disks.old.items }
     ensures answer { IfTold (S.left source.old) (S.left source.new) (λ input _.
         IfOk result (λ a. IsOfCommand command.now (record {
-          source = Rose (S.faults source.old) (S.faults source.new);
-          disk = FailedAt D.faults disks.old.items disks.new.items;
+          source_failed = Rose (S.faults source.old) (S.faults source.new);
+          disks = disks_left D.tells D.faults D.moment D.left_since
+              disks.old.items disks.new.items;
         })
-        (KeepStorm D.tells D.moment D.left_since disks.new.items)
         input (number a.status) a.text.items)) }
     ensures generated { (seed size : ℕ) → command.now ≡ Gen seed size → size ≤ 400
         → IfOk result (λ a. (number a.status ≡ 0) ⊎ (number a.status ≡ 6)) }
@@ -130,10 +116,6 @@ pub(crate) fn obey<S: Source, D: TellingDisk, R: DataType, Q: DataType, C: DataT
         → IfTold (S.left source.old) (S.left source.new)
         (λ _ rest. IfOk result (λ a. IsTelling a.status → rest ≡ [])) }
     ensures unread { reads command.now ≡ false → source.new ≡ source.old }
-    ensures recovered { IfTold (S.left source.old) (S.left source.new) (λ input _.
-        IfOk result (λ a. IsTelling a.status → IfRuns command.now input (λ script.
-        LeavesDisks (FailedAt D.faults disks.old.items disks.new.items)
-        D.tells D.moment D.left_since script disks.new.items))) }
     ensures back { AreHandedBack D.tells D.faults disks.old.items disks.new.items }
     ensures others { IfTold (S.left source.old) (S.left source.new) (λ input _.
         drop (nodes_for command.now input) disks.new.items

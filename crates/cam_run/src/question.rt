@@ -7,7 +7,7 @@ ghost use Rattle.cam_run.specs.Status.{number};
 ghost use Rattle.cam_run.specs.declared.status.Status.TheVariants as statuses;
 ghost use Rattle.cam_run.specs.Told.{ComesOfRun, IsTold, IsTelling};
 ghost use Rattle.cam_why.specs.Causes.{IsWhole};
-ghost use Rattle.cam_run.specs.Disks.{FailedAt, LeavesDisks, OneFailed};
+ghost use Rattle.cam_run.specs.Disks.{FailedAt, OneFailed, disks_left};
 ghost use Rattle.cam_run.specs.Answer.{IsOfRun};
 
 use crate::answer::{Answer, disk_fault};
@@ -53,16 +53,14 @@ impl Question {
         requires script { IsScript script.now }
         requires enough { script.now.nodes ≤ length disks.old.items }
         ensures answer { IfOk result (λ a. IsOfRun self.now script.now
-            (FailedAt D.faults disks.old.items disks.new.items) (number a.status) a.text.items) }
+            (disks_left D.tells D.faults D.moment D.left_since disks.old.items disks.new.items)
+            (number a.status) a.text.items) }
         ensures statuses { IfOk result (λ a. ComesOfRun a.status) }
         ensures disk_fault { IfOk result (λ a. a.status ≡ statuses.DiskFault
             → OneFailed script.now.nodes (FailedAt D.faults disks.old.items disks.new.items)) }
         ensures back { AreHandedBack D.tells D.faults disks.old.items disks.new.items }
         ensures others { drop script.now.nodes disks.new.items
             ≡ drop script.now.nodes disks.old.items }
-        ensures recovered { IfOk result (λ a. IsTelling a.status
-            → LeavesDisks (FailedAt D.faults disks.old.items disks.new.items)
-            D.tells D.moment D.left_since script.now disks.new.items) }
     {
         match run(alloc, script, disks, servers) {
             Ok(record) => self.tell(alloc, script, &record),

@@ -2,8 +2,7 @@
 ghost use Rattle.std.specs.Prelude.{◌≡◌, ◌≤◌, ◌+◌, ◌++◌, IfErr, IfOk, OnErr, OnOk, drop, length, reverse, take, vec_capacity, vec_len};
 ghost use Rattle.cam_cluster.specs.HandedBack.{AreHandedBack};
 ghost use Rattle.cam_script.specs.Law.{IsScript};
-ghost use Rattle.cam_cluster.specs.WholeRuns.{IsRecordOf};
-ghost use Rattle.cam_run.specs.Disks.{FailedAmong, FailedAt, IsNamed, LeavesDisks};
+ghost use Rattle.cam_run.specs.Disks.{FailedAt, IsNamed, IsRunOver, disks_left};
 
 use cam_base::NoMemory;
 use cam_cluster::{RunFault, Servers, push_owned, run_script};
@@ -22,17 +21,13 @@ pub(crate) fn run<D: TellingDisk, R: DataType, Q: DataType, C: DataType>(
 ) -> Result<RunRecord, RunFault>
     requires script { IsScript script.now }
     requires enough { script.now.nodes ≤ length disks.old.items }
-    ensures run { IfOk result
-        (IsRecordOf script.now (FailedAmong script.now.nodes
-        (FailedAt D.faults disks.old.items disks.new.items))) }
+    ensures run { IfOk result (IsRunOver script.now
+        (disks_left D.tells D.faults D.moment D.left_since disks.old.items disks.new.items)) }
     ensures cause { IfErr result (IsNamed script.now.nodes
         (FailedAt D.faults disks.old.items disks.new.items)) }
     ensures back { AreHandedBack D.tells D.faults disks.old.items disks.new.items }
     ensures others { drop script.now.nodes disks.new.items
         ≡ drop script.now.nodes disks.old.items }
-    ensures recovered { OnOk result (LeavesDisks
-        (FailedAt D.faults disks.old.items disks.new.items)
-        D.tells D.moment D.left_since script.now disks.new.items) }
 {
     let mut further = set_aside(alloc, disks, script.nodes as usize)?;
     let run = run_script(alloc, script, disks, servers);

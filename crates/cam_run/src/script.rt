@@ -11,7 +11,7 @@ ghost use Rattle.cam_run.specs.declared.status.Status.TheVariants as statuses;
 ghost use Rattle.cam_run.specs.declared.question.Question.TheVariants as questions;
 ghost use Rattle.cam_run.specs.Status.{number};
 ghost use Rattle.cam_run.specs.Told.{ComesOfRun, IsTelling};
-ghost use Rattle.cam_run.specs.Disks.{FailedAt, LeavesDisks, OneFailed};
+ghost use Rattle.cam_run.specs.Disks.{FailedAt, OneFailed, disks_left};
 ghost use Rattle.cam_run.specs.Answer.{IsOfInput, IsOfScript, IsRefused, nodes_of};
 
 use crate::answer::{Answer, read_fault, refused_line};
@@ -37,8 +37,9 @@ pub(crate) fn of_source<S: Source, D: TellingDisk, R: DataType, Q: DataType, C: 
     requires eight { 8 ≤ length disks.old.items }
     ensures answer { IfTold (S.left source.old) (S.left source.new) (λ input _.
         IfOk result (λ a. IsOfInput question.now (record {
-          source = Rose (S.faults source.old) (S.faults source.new);
-          disk = FailedAt D.faults disks.old.items disks.new.items;
+          source_failed = Rose (S.faults source.old) (S.faults source.new);
+          disks = disks_left D.tells D.faults D.moment D.left_since
+              disks.old.items disks.new.items;
         })
         input (number a.status) a.text.items)) }
     ensures statuses { IfOk result
@@ -56,10 +57,6 @@ pub(crate) fn of_source<S: Source, D: TellingDisk, R: DataType, Q: DataType, C: 
     ensures others { IfTold (S.left source.old) (S.left source.new) (λ input _.
         drop (nodes_of (read_script input)) disks.new.items
         ≡ drop (nodes_of (read_script input)) disks.old.items) }
-    ensures recovered { IfTold (S.left source.old) (S.left source.new) (λ input _.
-        IfOk result (λ a. IsTelling a.status → IfOk (read_script input) (λ script.
-        LeavesDisks (FailedAt D.faults disks.old.items disks.new.items)
-        D.tells D.moment D.left_since script disks.new.items))) }
 {
     match read_all(alloc, source, MOST_BYTES) {
         Ok(bytes) => of_bytes(alloc, question, &bytes, disks, servers),
@@ -81,7 +78,8 @@ pub(crate) fn of_seed<D: TellingDisk, R: DataType, Q: DataType, C: DataType>(
     requires eight { 8 ≤ length disks.old.items }
     ensures answer { IfOk result
         (λ a. IsOfScript (questions.Summary size) (read_script (generated seed size))
-        (FailedAt D.faults disks.old.items disks.new.items) (number a.status) a.text.items) }
+        (disks_left D.tells D.faults D.moment D.left_since disks.old.items disks.new.items)
+        (number a.status) a.text.items) }
     ensures statuses { IfOk result
         (λ a. ComesOfRun a.status ⊎ (a.status ≡ statuses.Refused)) }
     ensures accepted { size ≤ 400 → IfOk result
@@ -93,10 +91,6 @@ pub(crate) fn of_seed<D: TellingDisk, R: DataType, Q: DataType, C: DataType>(
         (λ a. a.status ≡ statuses.Refused → disks.new ≡ disks.old) }
     ensures others { drop (nodes_of (read_script (generated seed size))) disks.new.items
         ≡ drop (nodes_of (read_script (generated seed size))) disks.old.items }
-    ensures recovered { IfOk result (λ a. IsTelling a.status
-        → IfOk (read_script (generated seed size)) (λ script.
-        LeavesDisks (FailedAt D.faults disks.old.items disks.new.items)
-        D.tells D.moment D.left_since script disks.new.items)) }
 {
     let script = cam_gen::script_of(alloc, seed, size)?;
     of_bytes(
@@ -120,7 +114,8 @@ fn of_bytes<D: TellingDisk, R: DataType, Q: DataType, C: DataType>(
     requires eight { 8 ≤ length disks.old.items }
     ensures answer { IfOk result
         (λ a. IsOfScript question.now (read_script bytes.now)
-        (FailedAt D.faults disks.old.items disks.new.items) (number a.status) a.text.items) }
+        (disks_left D.tells D.faults D.moment D.left_since disks.old.items disks.new.items)
+        (number a.status) a.text.items) }
     ensures statuses { IfOk result
         (λ a. ComesOfRun a.status ⊎ (a.status ≡ statuses.Refused)) }
     ensures disk_fault { IfOk result (λ a. a.status ≡ statuses.DiskFault
@@ -130,10 +125,6 @@ fn of_bytes<D: TellingDisk, R: DataType, Q: DataType, C: DataType>(
         (λ a. a.status ≡ statuses.Refused → disks.new ≡ disks.old) }
     ensures others { drop (nodes_of (read_script bytes.now)) disks.new.items
         ≡ drop (nodes_of (read_script bytes.now)) disks.old.items }
-    ensures recovered { IfOk result (λ a. IsTelling a.status
-        → IfOk (read_script bytes.now) (λ script.
-        LeavesDisks (FailedAt D.faults disks.old.items disks.new.items)
-        D.tells D.moment D.left_since script disks.new.items)) }
 {
     match parse(alloc, bytes) {
         Ok(script) => question.answer(alloc, &script, disks, servers),

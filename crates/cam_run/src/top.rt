@@ -16,8 +16,8 @@ ghost use Rattle.cam_run.specs.declared.status.Status.TheVariants as statuses;
 ghost use Rattle.cam_run.specs.Status.{number};
 ghost use Rattle.cam_run.specs.Told.{IsTelling, MayAnswer};
 ghost use Rattle.cam_run.specs.Commands.{IsForm, Reads, UsesDisks, storm_of};
-ghost use Rattle.cam_run.specs.Disks.{FailedAt, LeavesDisks, OneFailed};
-ghost use Rattle.cam_run.specs.Answer.{IfRuns, IsAnswer, IsOfStorm, IsWritten, command_status, nodes_for};
+ghost use Rattle.cam_run.specs.Disks.{FailedAt, OneFailed, disks_left};
+ghost use Rattle.cam_run.specs.Answer.{IsAnswer, IsOfStorm, IsWritten, command_status, nodes_for};
 ghost use Rattle.cam_run.specs.Storm.{KeepStorm, StormsKeepPromises};
 
 use crate::alone::obey;
@@ -78,13 +78,16 @@ pub fn camelot<
     ensures disk_fault { result ≡ 6
         → OneFailed 8 (FailedAt D.faults disks.old.items disks.new.items) }
 
-    // What was written, and that nothing else keeps an accepted or a refused script from its answer.
+    // What was written. Of a script there is one run, with one list of halts, that the text tells of and the disks of its nodes keep: whatever
+    // a crash now leaves of one is a log; what may be recovered of a node that is not halted at the end is what the node kept, and of one
+    // that is halted it is that, or what the node would have kept with the event at which it halted. So it is where the sink failed, too,
+    // since the text is made before the first write. And nothing else keeps an accepted or a refused script from its answer.
     ensures written { IfTold (S.left source.old) (S.left source.new) (λ input _.
         IsWritten (IsAnswer (map string_bytes words.now) (record {
-          source = Rose (S.faults source.old) (S.faults source.new);
-          disk = FailedAt D.faults disks.old.items disks.new.items;
-        })
-        (KeepStorm D.tells D.moment D.left_since disks.new.items) input)
+          source_failed = Rose (S.faults source.old) (S.faults source.new);
+          disks = disks_left D.tells D.faults D.moment D.left_since
+              disks.old.items disks.new.items;
+        }) input)
         result (K.written sink.old) (K.written sink.new)) }
     ensures complete { IfTold (S.left source.old) (S.left source.new) (λ input _.
         (command : Commands) → IsFormOf (map string_bytes words.now) command
@@ -103,22 +106,6 @@ pub fn camelot<
     // different outcomes; and a log that keeps a node's history gives what the node keeps over a restart.
     ensures headline { (input : List ℕ)
         → IfOk (read_script input) (λ script. (halts : Halting) → HasHaltedRun script halts) }
-    // So the disks of its nodes: whatever a crash now leaves of one is a log; what may be recovered of a node that is not halted at the
-    // end is what the node kept, and of one that is halted it is that, or what the node would have kept with the event at which it halted.
-    ensures recovered { IfTold (S.left source.old) (S.left source.new) (λ input _.
-        (command : Commands) → IsFormOf (map string_bytes words.now) command
-        → (result ≡ 0) ⊎ (result ≡ 8) → IfRuns command input (λ script.
-        LeavesDisks (FailedAt D.faults disks.old.items disks.new.items)
-        D.tells D.moment D.left_since script disks.new.items)) }
-    // So it is where the sink alone failed, since the text is made before the first write.
-    ensures recovered_unwritten { IfTold (S.left source.old) (S.left source.new) (λ input _.
-        (command : Commands) → IsFormOf (map string_bytes words.now) command → result ≡ 5
-        → ¬ (Rose (S.faults source.old) (S.faults source.new))
-        → ¬ (OneFailed (nodes_for command input)
-        (FailedAt D.faults disks.old.items disks.new.items))
-        → IfRuns command input (λ script.
-        LeavesDisks (FailedAt D.faults disks.old.items disks.new.items)
-        D.tells D.moment D.left_since script disks.new.items)) }
 
     // Of every script by time that is accepted: its run keeps the rules of runs by time; each action in it, whatever became of its
     // ancestors, has its view in a legal execution in which it is no orphan; committed top actions replay serially in commit order, in a
@@ -188,10 +175,10 @@ fn answer_to<
     requires eight { 8 ≤ length disks.old.items }
     ensures answer { IfTold (S.left source.old) (S.left source.new) (λ input _.
         IfOk result (λ a. IsAnswer (map string_bytes words.now) (record {
-          source = Rose (S.faults source.old) (S.faults source.new);
-          disk = FailedAt D.faults disks.old.items disks.new.items;
+          source_failed = Rose (S.faults source.old) (S.faults source.new);
+          disks = disks_left D.tells D.faults D.moment D.left_since
+              disks.old.items disks.new.items;
         })
-        (KeepStorm D.tells D.moment D.left_since disks.new.items)
         input (number a.status) a.text.items)) }
     ensures storm { (seed actions threads : ℕ) (calm : Bool)
         → IsFormOf (map string_bytes words.now) (StormWords seed actions threads calm)
@@ -218,11 +205,6 @@ fn answer_to<
         → IfTold (S.left source.old) (S.left source.new)
         (λ _ rest. IfOk result (λ a. IsTelling a.status → rest ≡ [])) }
     ensures unread { ¬ (Reads (map string_bytes words.now)) → source.new ≡ source.old }
-    ensures recovered { IfTold (S.left source.old) (S.left source.new) (λ input _.
-        (command : Commands) → IsFormOf (map string_bytes words.now) command
-        → IfOk result (λ a. IsTelling a.status → IfRuns command input (λ script.
-        LeavesDisks (FailedAt D.faults disks.old.items disks.new.items)
-        D.tells D.moment D.left_since script disks.new.items))) }
     ensures back { AreHandedBack D.tells D.faults disks.old.items disks.new.items }
     ensures others { IfTold (S.left source.old) (S.left source.new) (λ input _.
         (command : Commands) → IsFormOf (map string_bytes words.now) command

@@ -3,11 +3,9 @@ use Rattle.std.proofs.Common.{◌≡◌, ◌⊎◌, inl, ◌∙◌, ℕ, subst, 
 use Rattle.cam_base.proofs.Told.{if_told_weaker}
 use Rattle.cam_base.specs.Causes.{Rose}
 use Rattle.cam_run.specs.Status.{number}
-use Rattle.cam_run.specs.Disks.{FailedAt}
+use Rattle.cam_run.specs.Disks.{disks_left}
 use Rattle.cam_run.specs.Answer.{IsOfCommand}
-use Rattle.cam_run.specs.Storm.{KeepStorm}
 use Rattle.cam_run.proofs.CommandStatus.{command_has_status}
-use Rattle.cam_run.proofs.Failing.{runs_by_status, told_both}
 use Rattle.cam_run.proofs.Written.{is_telling, not_telling, own_status}
 use Rattle.cam_run.proofs.Written.{writes_front, writes_whole}
 use Rattle.cam_run.proofs.alone.camelot_alone.Goals as goal
@@ -17,11 +15,11 @@ returns-in-Ok-write_all-clause-written g c =
     writes_whole
     (IsOfCommand c.args.command.now
     (record {
-      source = Rose (g.S.Source.faults c.args.source.now) (g.S.Source.faults c.obey.new.source);
-      disk = FailedAt g.D.Disk.faults c.args.disks.now.items c.obey.new.disks.items;
-    })
-    (KeepStorm g.D.Disk.tells g.D.Disk.moment g.D.Disk.left_since c.obey.new.disks.items)
-    )
+      source_failed = Rose (g.S.Source.faults c.args.source.now) (g.S.Source.faults c.obey.new.source);
+      disks =
+          disks_left g.D.Disk.tells g.D.Disk.faults g.D.Disk.moment g.D.Disk.left_since
+          c.args.disks.now.items c.obey.new.disks.items;
+    }))
     (g.S.Source.left c.args.source.now) (g.S.Source.left c.obey.new.source)
     (g.K.Sink.written c.args.sink.now) (g.K.Sink.written c.write_all.new.sink)
     _ (number c.in-Ok.answer.status) c.in-Ok.answer.text.items c.deref.result.now
@@ -33,11 +31,11 @@ returns-clause-written g c =
     writes_front
     (IsOfCommand c.args.command.now
     (record {
-      source = Rose (g.S.Source.faults c.args.source.now) (g.S.Source.faults c.obey.new.source);
-      disk = FailedAt g.D.Disk.faults c.args.disks.now.items c.obey.new.disks.items;
-    })
-    (KeepStorm g.D.Disk.tells g.D.Disk.moment g.D.Disk.left_since c.obey.new.disks.items)
-    )
+      source_failed = Rose (g.S.Source.faults c.args.source.now) (g.S.Source.faults c.obey.new.source);
+      disks =
+          disks_left g.D.Disk.tells g.D.Disk.faults g.D.Disk.moment g.D.Disk.left_since
+          c.args.disks.now.items c.obey.new.disks.items;
+    }))
     (g.S.Source.left c.args.source.now) (g.S.Source.left c.obey.new.source)
     (g.K.Sink.written c.args.sink.now) (g.K.Sink.written c.write_all.new.sink)
     _ (number c.in-Ok.answer.status) c.in-Ok.answer.text.items c.deref.result.now
@@ -48,40 +46,5 @@ returns-in-Ok-write_all-clause-complete g c =
     if_told_weaker (g.S.Source.left c.args.source.now) (g.S.Source.left c.obey.new.source)
     (λ input rest is read took none.
     inl (c.number-in-Ok-write_all.ensures
-    ∙ command_has_status c.args.command.now _ _ input _ _ is read none))
+    ∙ command_has_status c.args.command.now _ input _ _ is read none))
     c.in-Ok.ensures.answer
-
-pub returns-in-Ok-write_all-clause-recovered_unwritten :
-    goal.returns-in-Ok-write_all-clause-recovered_unwritten
-returns-in-Ok-write_all-clause-recovered_unwritten g c =
-    if_told_weaker (g.S.Source.left c.args.source.now) (g.S.Source.left c.obey.new.source)
-    (λ input rest said five.
-    absurd
-    ((own_status c.in-Ok.answer.status (inl c.in-Ok.ensures.statuses)).0
-    (sym c.number-in-Ok-write_all.ensures ∙ five)))
-    c.in-Ok.ensures.recovered
-
-pub returns-clause-recovered_unwritten : goal.returns-clause-recovered_unwritten
-returns-clause-recovered_unwritten g c =
-    told_both (g.S.Source.left c.args.source.now) (g.S.Source.left c.obey.new.source)
-    (λ input rest is recovered five read none.
-    runs_by_status c.args.command.now input c.in-Ok.answer.status _
-    (command_has_status c.args.command.now _ _ input _ _ is read none) recovered)
-    c.in-Ok.ensures.answer c.in-Ok.ensures.recovered
-
-pub returns-in-Ok-write_all-clause-recovered : goal.returns-in-Ok-write_all-clause-recovered
-returns-in-Ok-write_all-clause-recovered g c =
-    if_told_weaker (g.S.Source.left c.args.source.now) (g.S.Source.left c.obey.new.source)
-    (λ input rest said ends.
-    said
-    (is_telling c.in-Ok.answer.status
-    (subst (λ (n : ℕ). (n ≡ 0) ⊎ (n ≡ 8)) c.number-in-Ok-write_all.ensures ends)))
-    c.in-Ok.ensures.recovered
-
-pub returns-clause-recovered : goal.returns-clause-recovered
-returns-clause-recovered g c =
-    if_told_weaker (g.S.Source.left c.args.source.now) (g.S.Source.left c.obey.new.source)
-    (λ input rest said ends.
-    not_telling 5 (omega arith) (omega arith)
-    (subst (λ (n : ℕ). (n ≡ 0) ⊎ (n ≡ 8)) c.number-in-Err.ensures ends))
-    c.in-Ok.ensures.recovered

@@ -2,10 +2,8 @@
 use Rattle.std.proofs.Common.{◌≡◌, ℕ, List, IfOk, drop, subst, sym}
 use Rattle.cam_args.specs.declared.Command.{Command}
 use Rattle.cam_base.specs.Causes.{Rose}
-use Rattle.cam_run.specs.Told.{IsTelling}
-use Rattle.cam_run.specs.Disks.{FailedAt, LeavesDisks}
-use Rattle.cam_run.specs.Storm.{KeepStorm}
-use Rattle.cam_run.specs.Answer.{IfRuns, nodes_for}
+use Rattle.cam_run.specs.Disks.{disks_left}
+use Rattle.cam_run.specs.Answer.{nodes_for}
 use Rattle.cam_run.proofs.Commanded.{of_unread}
 use Rattle.cam_run.proofs.AnswersSeed.{answers_seed}
 use Rattle.cam_run.proofs.alone.obey.Goals as goal
@@ -14,10 +12,11 @@ pub returns-in-Gen-clause-answer : goal.returns-in-Gen-clause-answer
 returns-in-Gen-clause-answer g c =
     answers_seed c.args.command.now c.in-Gen.seed c.in-Gen.size
     (record {
-      source = Rose (g.S.Source.faults c.args.source.now) (g.S.Source.faults c.args.source.now);
-      disk = FailedAt g.D.Disk.faults c.args.disks.now.items c.of_seed.new.disks.items;
+      source_failed = Rose (g.S.Source.faults c.args.source.now) (g.S.Source.faults c.args.source.now);
+      disks =
+          disks_left g.D.Disk.tells g.D.Disk.faults g.D.Disk.moment g.D.Disk.left_since
+          c.args.disks.now.items c.of_seed.new.disks.items;
     })
-    (KeepStorm g.D.Disk.tells g.D.Disk.moment g.D.Disk.left_since c.of_seed.new.disks.items)
     (g.S.Source.left c.args.source.now) c.of_seed.result c.in-Gen.is c.of_seed.ensures.answer
 
 pub returns-in-Gen-clause-others : goal.returns-in-Gen-clause-others
@@ -32,26 +31,3 @@ returns-in-Gen-clause-others g c =
     drop (nodes_for command input) c.of_seed.new.disks.items
     ≡ drop (nodes_for command input) c.args.disks.now.items)
     (sym c.in-Gen.is) c.of_seed.ensures.others)
-
-pub returns-in-Gen-clause-recovered : goal.returns-in-Gen-clause-recovered
-returns-in-Gen-clause-recovered g c =
-    of_unread (g.S.Source.left c.args.source.now)
-    (λ (input : List ℕ).
-    IfOk c.of_seed.result
-    (λ a. IsTelling a.status
-    → IfRuns c.args.command.now input
-    (λ script.
-    LeavesDisks (FailedAt g.D.Disk.faults c.args.disks.now.items c.of_seed.new.disks.items)
-    g.D.Disk.tells g.D.Disk.moment g.D.Disk.left_since script
-    c.of_seed.new.disks.items)))
-    (λ input.
-    subst
-    (λ (command : Command).
-    IfOk c.of_seed.result
-    (λ a. IsTelling a.status
-    → IfRuns command input
-    (λ script.
-    LeavesDisks (FailedAt g.D.Disk.faults c.args.disks.now.items c.of_seed.new.disks.items)
-    g.D.Disk.tells g.D.Disk.moment g.D.Disk.left_since script
-    c.of_seed.new.disks.items)))
-    (sym c.in-Gen.is) c.of_seed.ensures.recovered)

@@ -1,12 +1,10 @@
 -- A run over the first disks, and what it says of the whole list.
 use Rattle.std.proofs.Common.{◌≡◌, List, sym, subst, arith}
 use Rattle.std.proofs.lemmas.Grind.{common_steps}
-use Rattle.std.proofs.lemmas.Result.{IfOk-weaker}
 use Rattle.cam_cluster.specs.HandedBack.{AreHandedBack}
 use Rattle.cam_run.proofs.FirstDisks.{all_back, as_they_were, failed_over, first_length}
 use Rattle.cam_run.proofs.FirstDisks.{is_over_first, named_over, rest_stays}
-use Rattle.cam_run.proofs.LeftDisks.{run_leaves}
-use Rattle.cam_run.proofs.Recorded.{record_by}
+use Rattle.cam_run.proofs.LeftDisks.{run_over}
 use Rattle.cam_run.proofs.running.run.Goals as goal
 
 pub returns-in_err-further-clause-back : goal.returns-in_err-further-clause-back
@@ -26,15 +24,17 @@ put_back-requires g c =
 
 pub returns-clause-run : goal.returns-clause-run
 returns-clause-run g c =
-    IfOk-weaker c.run_script-run.result _ _
-    (λ run is. record_by c.args.script.now _ _ run
-    (failed_over g.D.Disk.tells g.D.Disk.faults c.args.script.now.nodes c.args.disks.now.items
-    c.set_aside.new.disks.items c.run_script-run.new.disks.items c.put_back.new.disks.items
-    (is_over_first g.D.Disk.tells g.D.Disk.faults c.args.script.now.nodes c.args.disks.now.items
+    let over = is_over_first g.D.Disk.tells g.D.Disk.faults c.args.script.now.nodes c.args.disks.now.items
     c.set_aside.new.disks.items c.run_script-run.new.disks.items c.in_ok-further.further.items
     c.put_back.new.disks.items c.requires.enough c.in_ok-further.ensures.first
-    c.run_script-run.ensures.disks c.in_ok-further.ensures.further c.put_back.ensures)
-    c.in_ok-further.ensures.first) is.recorded) c.run_script-run.ensures.run
+    c.run_script-run.ensures.disks c.in_ok-further.ensures.further c.put_back.ensures in
+    run_over g.D.Disk.tells g.D.Disk.faults g.D.Disk.moment g.D.Disk.left_since
+    c.args.script.now _ c.args.disks.now.items c.run_script-run.new.disks.items
+    c.put_back.new.disks.items c.run_script-run.result over c.requires.script
+    (failed_over g.D.Disk.tells g.D.Disk.faults c.args.script.now.nodes c.args.disks.now.items
+    c.set_aside.new.disks.items c.run_script-run.new.disks.items c.put_back.new.disks.items over
+    c.in_ok-further.ensures.first)
+    c.run_script-run.ensures.run c.run_script-run.ensures.logs
 
 pub returns-clause-cause : goal.returns-clause-cause
 returns-clause-cause g c =
@@ -64,22 +64,3 @@ returns-clause-others g c =
     c.set_aside.new.disks.items c.run_script-run.new.disks.items c.in_ok-further.further.items
     c.put_back.new.disks.items c.requires.enough c.in_ok-further.ensures.first
     c.run_script-run.ensures.disks c.in_ok-further.ensures.further c.put_back.ensures)
-
-pub returns-clause-recovered : goal.returns-clause-recovered
-returns-clause-recovered g c =
-    run_leaves g.D.Disk.tells g.D.Disk.faults g.D.Disk.moment g.D.Disk.left_since
-    c.args.script.now _ _ c.args.disks.now.items c.run_script-run.new.disks.items
-    c.put_back.new.disks.items c.run_script-run.result
-    (is_over_first g.D.Disk.tells g.D.Disk.faults c.args.script.now.nodes c.args.disks.now.items
-    c.set_aside.new.disks.items c.run_script-run.new.disks.items c.in_ok-further.further.items
-    c.put_back.new.disks.items c.requires.enough c.in_ok-further.ensures.first
-    c.run_script-run.ensures.disks c.in_ok-further.ensures.further c.put_back.ensures)
-    c.requires.script
-    (failed_over g.D.Disk.tells g.D.Disk.faults c.args.script.now.nodes c.args.disks.now.items
-    c.set_aside.new.disks.items c.run_script-run.new.disks.items c.put_back.new.disks.items
-    (is_over_first g.D.Disk.tells g.D.Disk.faults c.args.script.now.nodes c.args.disks.now.items
-    c.set_aside.new.disks.items c.run_script-run.new.disks.items c.in_ok-further.further.items
-    c.put_back.new.disks.items c.requires.enough c.in_ok-further.ensures.first
-    c.run_script-run.ensures.disks c.in_ok-further.ensures.further c.put_back.ensures)
-    c.in_ok-further.ensures.first)
-    c.run_script-run.ensures.run c.run_script-run.ensures.logs

@@ -4,10 +4,8 @@ use Rattle.cam_args.specs.declared.Command.{Command}
 use Rattle.std.proofs.lemmas.Result.{IfOk-weaker}
 use Rattle.cam_base.specs.Causes.{Rose}
 use Rattle.cam_args.specs.declared.Command.TheVariants.{Gen, Storm}
-use Rattle.cam_run.specs.Told.{IsTelling}
-use Rattle.cam_run.specs.Disks.{FailedAt, LeavesDisks}
-use Rattle.cam_run.specs.Storm.{KeepStorm}
-use Rattle.cam_run.specs.Answer.{IfRuns, nodes_for}
+use Rattle.cam_run.specs.Disks.{disks_left}
+use Rattle.cam_run.specs.Answer.{nodes_for}
 use Rattle.cam_run.proofs.Commanded.{answers_words, completes_words, no_words, of_unread}
 use Rattle.cam_run.proofs.Commanded.{of_words, storm_answers, storm_in_range, storm_words}
 use Rattle.cam_run.proofs.Written.{not_usage}
@@ -17,10 +15,11 @@ pub returns-in-None-clause-answer : goal.returns-in-None-clause-answer
 returns-in-None-clause-answer g c =
     answers_words _ c.in-Ok.command
     (record {
-      source = Rose (g.S.Source.faults c.args.source.now) (g.S.Source.faults c.obey.new.source);
-      disk = FailedAt g.D.Disk.faults c.args.disks.now.items c.obey.new.disks.items;
+      source_failed = Rose (g.S.Source.faults c.args.source.now) (g.S.Source.faults c.obey.new.source);
+      disks =
+          disks_left g.D.Disk.tells g.D.Disk.faults g.D.Disk.moment g.D.Disk.left_since
+          c.args.disks.now.items c.obey.new.disks.items;
     })
-    (KeepStorm g.D.Disk.tells g.D.Disk.moment g.D.Disk.left_since c.obey.new.disks.items)
     (g.S.Source.left c.args.source.now) (g.S.Source.left c.obey.new.source) c.obey.result
     c.in-Ok.ensures.read c.obey.ensures.answer
 
@@ -28,24 +27,13 @@ pub returns-in-None-clause-complete : goal.returns-in-None-clause-complete
 returns-in-None-clause-complete g c =
     completes_words _ c.in-Ok.command
     (record {
-      source = Rose (g.S.Source.faults c.args.source.now) (g.S.Source.faults c.obey.new.source);
-      disk = FailedAt g.D.Disk.faults c.args.disks.now.items c.obey.new.disks.items;
+      source_failed = Rose (g.S.Source.faults c.args.source.now) (g.S.Source.faults c.obey.new.source);
+      disks =
+          disks_left g.D.Disk.tells g.D.Disk.faults g.D.Disk.moment g.D.Disk.left_since
+          c.args.disks.now.items c.obey.new.disks.items;
     })
-    (KeepStorm g.D.Disk.tells g.D.Disk.moment g.D.Disk.left_since c.obey.new.disks.items)
     (g.S.Source.left c.args.source.now) (g.S.Source.left c.obey.new.source) c.obey.result
     c.in-Ok.ensures.each c.obey.ensures.answer
-
-pub returns-in-None-clause-recovered : goal.returns-in-None-clause-recovered
-returns-in-None-clause-recovered g c =
-    of_words _ c.in-Ok.command
-    (λ (command : Command) (input : List ℕ).
-    IfOk c.obey.result
-    (λ a. IsTelling a.status → IfRuns command input (λ script.
-    LeavesDisks (FailedAt g.D.Disk.faults c.args.disks.now.items c.obey.new.disks.items)
-    g.D.Disk.tells g.D.Disk.moment g.D.Disk.left_since script
-    c.obey.new.disks.items)))
-    (g.S.Source.left c.args.source.now) (g.S.Source.left c.obey.new.source)
-    c.in-Ok.ensures.each c.obey.ensures.recovered
 
 pub returns-in-None-clause-usage : goal.returns-in-None-clause-usage
 returns-in-None-clause-usage g c =
@@ -89,40 +77,43 @@ pub returns-in-Some-clause-answer : goal.returns-in-Some-clause-answer
 returns-in-Some-clause-answer g c =
     answers_words _ c.in-Ok.command
     (record {
-      source = Rose (g.S.Source.faults c.args.source.now) (g.S.Source.faults c.args.source.now);
-      disk = FailedAt g.D.Disk.faults c.args.disks.now.items c.of_storm.new.disks.items;
+      source_failed = Rose (g.S.Source.faults c.args.source.now) (g.S.Source.faults c.args.source.now);
+      disks =
+          disks_left g.D.Disk.tells g.D.Disk.faults g.D.Disk.moment g.D.Disk.left_since
+          c.args.disks.now.items c.of_storm.new.disks.items;
     })
-    (KeepStorm g.D.Disk.tells g.D.Disk.moment g.D.Disk.left_since c.of_storm.new.disks.items)
     (g.S.Source.left c.args.source.now) (g.S.Source.left c.args.source.now) c.of_storm.result
     c.in-Ok.ensures.read
     (of_unread (g.S.Source.left c.args.source.now) _
-    (storm_answers c.in-Ok.command c.in-Some.asked.storm c.in-Some.asked.threads _ _
+    (storm_answers c.in-Ok.command c.in-Some.asked.storm c.in-Some.asked.threads _
     c.of_storm.result c.in-Some.ensures.storm c.of_storm.ensures.answer))
 
 pub returns-in-Some-clause-complete : goal.returns-in-Some-clause-complete
 returns-in-Some-clause-complete g c =
     completes_words _ c.in-Ok.command
     (record {
-      source = Rose (g.S.Source.faults c.args.source.now) (g.S.Source.faults c.args.source.now);
-      disk = FailedAt g.D.Disk.faults c.args.disks.now.items c.of_storm.new.disks.items;
+      source_failed = Rose (g.S.Source.faults c.args.source.now) (g.S.Source.faults c.args.source.now);
+      disks =
+          disks_left g.D.Disk.tells g.D.Disk.faults g.D.Disk.moment g.D.Disk.left_since
+          c.args.disks.now.items c.of_storm.new.disks.items;
     })
-    (KeepStorm g.D.Disk.tells g.D.Disk.moment g.D.Disk.left_since c.of_storm.new.disks.items)
     (g.S.Source.left c.args.source.now) (g.S.Source.left c.args.source.now) c.of_storm.result
     c.in-Ok.ensures.each
     (of_unread (g.S.Source.left c.args.source.now) _
-    (storm_answers c.in-Ok.command c.in-Some.asked.storm c.in-Some.asked.threads _ _
+    (storm_answers c.in-Ok.command c.in-Some.asked.storm c.in-Some.asked.threads _
     c.of_storm.result c.in-Some.ensures.storm c.of_storm.ensures.answer))
 
 pub returns-in-Some-clause-storm : goal.returns-in-Some-clause-storm
 returns-in-Some-clause-storm g c =
     storm_words _ c.in-Ok.command
     (record {
-      source = Rose (g.S.Source.faults c.args.source.now) (g.S.Source.faults c.args.source.now);
-      disk = FailedAt g.D.Disk.faults c.args.disks.now.items c.of_storm.new.disks.items;
+      source_failed = Rose (g.S.Source.faults c.args.source.now) (g.S.Source.faults c.args.source.now);
+      disks =
+          disks_left g.D.Disk.tells g.D.Disk.faults g.D.Disk.moment g.D.Disk.left_since
+          c.args.disks.now.items c.of_storm.new.disks.items;
     })
-    (KeepStorm g.D.Disk.tells g.D.Disk.moment g.D.Disk.left_since c.of_storm.new.disks.items)
     c.of_storm.result c.in-Ok.ensures.each
-    ((storm_answers c.in-Ok.command c.in-Some.asked.storm c.in-Some.asked.threads _ _
+    ((storm_answers c.in-Ok.command c.in-Some.asked.storm c.in-Some.asked.threads _
     c.of_storm.result c.in-Some.ensures.storm c.of_storm.ensures.answer) [])
 
 pub returns-in-Some-clause-usage : goal.returns-in-Some-clause-usage
@@ -133,29 +124,6 @@ returns-in-Some-clause-usage g c =
       λ none. absurd (none (c.in-Ok.command, c.in-Ok.ensures.read)),
     ))
     c.of_storm.ensures.statuses
-
-pub returns-in-Some-clause-recovered : goal.returns-in-Some-clause-recovered
-returns-in-Some-clause-recovered g c =
-    of_words _ c.in-Ok.command
-    (λ (command : Command) (input : List ℕ).
-    IfOk c.of_storm.result
-    (λ a. IsTelling a.status → IfRuns command input (λ script.
-    LeavesDisks (FailedAt g.D.Disk.faults c.args.disks.now.items c.of_storm.new.disks.items)
-    g.D.Disk.tells g.D.Disk.moment g.D.Disk.left_since script
-    c.of_storm.new.disks.items)))
-    (g.S.Source.left c.args.source.now) (g.S.Source.left c.args.source.now)
-    c.in-Ok.ensures.each
-    (of_unread (g.S.Source.left c.args.source.now) _
-    (λ input.
-    subst
-    (λ (command : Command).
-    IfOk c.of_storm.result
-    (λ a. IsTelling a.status → IfRuns command input (λ script.
-    LeavesDisks (FailedAt g.D.Disk.faults c.args.disks.now.items c.of_storm.new.disks.items)
-    g.D.Disk.tells g.D.Disk.moment g.D.Disk.left_since script
-    c.of_storm.new.disks.items)))
-    (sym c.in-Some.ensures.storm)
-    (IfOk-weaker c.of_storm.result _ _ (λ a is telling. tt) c.of_storm.ensures.statuses)))
 
 pub returns-in-Some-clause-others : goal.returns-in-Some-clause-others
 returns-in-Some-clause-others g c =

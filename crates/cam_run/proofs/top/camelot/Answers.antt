@@ -3,11 +3,10 @@ use Rattle.std.proofs.Common.{◌≡◌, ◌⊎◌, inl, ◌∙◌, ℕ, map, st
 use Rattle.cam_base.proofs.Told.{if_told_weaker}
 use Rattle.cam_base.specs.Causes.{Rose}
 use Rattle.cam_run.specs.Status.{number}
-use Rattle.cam_run.specs.Disks.{FailedAt}
+use Rattle.cam_run.specs.Disks.{FailedAt, disks_left}
 use Rattle.cam_run.specs.Answer.{IsAnswer, IsOfStorm}
 use Rattle.cam_run.specs.Commands.{storm_of}
 use Rattle.cam_run.specs.Storm.{KeepStorm}
-use Rattle.cam_run.proofs.Failing.{runs_by_status, told_both}
 use Rattle.cam_run.proofs.Written.{is_telling, not_telling, own_status}
 use Rattle.cam_run.proofs.Stormed.{storms_keep_promises}
 use Rattle.cam_run.proofs.Written.{writes_front, writes_nothing, writes_whole, written_front, written_whole}
@@ -18,11 +17,11 @@ returns-in-Ok-write_all-clause-written g c =
     writes_whole
     (IsAnswer (map string_bytes c.args.words.now)
     (record {
-      source = Rose (g.S.Source.faults c.args.source.now) (g.S.Source.faults c.answer_to.new.source);
-      disk = FailedAt g.D.Disk.faults c.args.disks.now.items c.answer_to.new.disks.items;
-    })
-    (KeepStorm g.D.Disk.tells g.D.Disk.moment g.D.Disk.left_since c.answer_to.new.disks.items)
-    )
+      source_failed = Rose (g.S.Source.faults c.args.source.now) (g.S.Source.faults c.answer_to.new.source);
+      disks =
+          disks_left g.D.Disk.tells g.D.Disk.faults g.D.Disk.moment g.D.Disk.left_since
+          c.args.disks.now.items c.answer_to.new.disks.items;
+    }))
     (g.S.Source.left c.args.source.now) (g.S.Source.left c.answer_to.new.source)
     (g.K.Sink.written c.args.sink.now) (g.K.Sink.written c.write_all.new.sink)
     _ (number c.in-Ok.answer.status) c.in-Ok.answer.text.items c.deref.result.now
@@ -34,11 +33,11 @@ returns-clause-written g c =
     writes_front
     (IsAnswer (map string_bytes c.args.words.now)
     (record {
-      source = Rose (g.S.Source.faults c.args.source.now) (g.S.Source.faults c.answer_to.new.source);
-      disk = FailedAt g.D.Disk.faults c.args.disks.now.items c.answer_to.new.disks.items;
-    })
-    (KeepStorm g.D.Disk.tells g.D.Disk.moment g.D.Disk.left_since c.answer_to.new.disks.items)
-    )
+      source_failed = Rose (g.S.Source.faults c.args.source.now) (g.S.Source.faults c.answer_to.new.source);
+      disks =
+          disks_left g.D.Disk.tells g.D.Disk.faults g.D.Disk.moment g.D.Disk.left_since
+          c.args.disks.now.items c.answer_to.new.disks.items;
+    }))
     (g.S.Source.left c.args.source.now) (g.S.Source.left c.answer_to.new.source)
     (g.K.Sink.written c.args.sink.now) (g.K.Sink.written c.write_all.new.sink)
     _ (number c.in-Ok.answer.status) c.in-Ok.answer.text.items c.deref.result.now
@@ -76,50 +75,16 @@ returns-in-Ok-write_all-clause-complete g c =
     inl (c.number-in-Ok-write_all.ensures ∙ said command form read none))
     c.in-Ok.ensures.complete
 
-pub returns-in-Ok-write_all-clause-recovered_unwritten :
-    goal.returns-in-Ok-write_all-clause-recovered_unwritten
-returns-in-Ok-write_all-clause-recovered_unwritten g c =
-    if_told_weaker (g.S.Source.left c.args.source.now) (g.S.Source.left c.answer_to.new.source)
-    (λ input rest said command form five.
-    absurd
-    ((own_status c.in-Ok.answer.status c.in-Ok.ensures.statuses).0
-    (sym c.number-in-Ok-write_all.ensures ∙ five)))
-    c.in-Ok.ensures.recovered
-
-pub returns-clause-recovered_unwritten : goal.returns-clause-recovered_unwritten
-returns-clause-recovered_unwritten g c =
-    told_both (g.S.Source.left c.args.source.now) (g.S.Source.left c.answer_to.new.source)
-    (λ input rest complete recovered command form five read none.
-    runs_by_status command input c.in-Ok.answer.status _ (complete command form read none)
-    (recovered command form))
-    c.in-Ok.ensures.complete c.in-Ok.ensures.recovered
-
-pub returns-in-Ok-write_all-clause-recovered : goal.returns-in-Ok-write_all-clause-recovered
-returns-in-Ok-write_all-clause-recovered g c =
-    if_told_weaker (g.S.Source.left c.args.source.now) (g.S.Source.left c.answer_to.new.source)
-    (λ input rest said command form ends.
-    said command form
-    (is_telling c.in-Ok.answer.status
-    (subst (λ (n : ℕ). (n ≡ 0) ⊎ (n ≡ 8)) c.number-in-Ok-write_all.ensures ends)))
-    c.in-Ok.ensures.recovered
-
-pub returns-clause-recovered : goal.returns-clause-recovered
-returns-clause-recovered g c =
-    if_told_weaker (g.S.Source.left c.args.source.now) (g.S.Source.left c.answer_to.new.source)
-    (λ input rest said command form ends.
-    not_telling 5 (omega arith) (omega arith)
-    (subst (λ (n : ℕ). (n ≡ 0) ⊎ (n ≡ 8)) c.number-in-Err.ensures ends))
-    c.in-Ok.ensures.recovered
-
 pub returns-in_default-clause-written : goal.returns-in_default-clause-written
 returns-in_default-clause-written g c =
     writes_nothing _
     (IsAnswer (map string_bytes c.args.words.now)
     (record {
-      source = Rose (g.S.Source.faults c.args.source.now) (g.S.Source.faults c.answer_to.new.source);
-      disk = FailedAt g.D.Disk.faults c.args.disks.now.items c.answer_to.new.disks.items;
-    })
-    (KeepStorm g.D.Disk.tells g.D.Disk.moment g.D.Disk.left_since c.answer_to.new.disks.items))
+      source_failed = Rose (g.S.Source.faults c.args.source.now) (g.S.Source.faults c.answer_to.new.source);
+      disks =
+          disks_left g.D.Disk.tells g.D.Disk.faults g.D.Disk.moment g.D.Disk.left_since
+          c.args.disks.now.items c.answer_to.new.disks.items;
+    }))
     (g.S.Source.left c.args.source.now) (g.S.Source.left c.answer_to.new.source)
     (g.K.Sink.written c.args.sink.now) _ c.number.ensures c.answer_to.ensures.answer
 
