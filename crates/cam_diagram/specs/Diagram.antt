@@ -19,9 +19,9 @@ use Rattle.cam_diagram.specs.Dots.{dots_text}
 abbrev pub size : Scene → ℕ → Size
 size scene events =
     record {
-      width = 106 + 120 * length scene.heads + 20 + 7 * scene.widest;
+      width = 112 + 120 * length scene.heads + 20 + 7 * scene.widest;
       height = 76 + 28 * events;
-      words = 106 + 120 * length scene.heads;
+      words = 112 + 120 * length scene.heads;
     }
 
 abbrev pub sizes : ℕ → ℕ → List ℕ

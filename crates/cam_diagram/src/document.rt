@@ -29,7 +29,7 @@ pub(crate) struct Size {
 fn size_of(scene: &Scene, events: u64) -> Size
     ensures { result ≡ size scene.now events }
 {
-    let words = 106 + 120 * scene.heads.len() as u128;
+    let words = 112 + 120 * scene.heads.len() as u128;
     Size {
         width: words + 20 + 7 * scene.widest as u128,
         height: 76 + 28 * events as u128,

@@ -34,7 +34,9 @@ stroke-linejoin:round;paint-order:stroke}
 .stop .sign{fill:#b33d00;stroke-width:2.2}.stop .words{fill:#b33d00;font-weight:bold}
 .beside{font-size:10px;font-weight:bold;stroke:#fff;stroke-width:4px;paint-order:stroke}
 .line{font-size:10px;text-anchor:end;fill:#57606a}
-.dim{opacity:.3}
+.dim{opacity:.35}
+.event.dim{opacity:1}.event.dim text{opacity:.45}.event.dim .sign{stroke-opacity:.35}
+.commit.dim .sign,.stop.dim .sign,.restart.dim .sign{fill-opacity:.35}
 .event:target .sign{stroke-width:5}
 @media print{svg{color:#000}
 .work,.reply,.end,.vote,.news,.unheard{color:#000}.stop .sign{fill:#000}}
