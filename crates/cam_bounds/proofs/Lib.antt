@@ -5,3 +5,5 @@ pub mod Requests
 pub mod Plays
 pub mod Lines
 mod Short
+mod Letters
+mod Moments

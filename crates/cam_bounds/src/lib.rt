@@ -8,13 +8,19 @@
 //! It uses `cam_runs` (runs, weights, what is left of the requests of bodies) and below.
 #![tactic(auto)]
 
-ghost use Rattle.cam_bounds.specs.Bounds.{BeginningsAreShort, HaltedRunsAreShort, RunsAreShort};
+ghost use Rattle.cam_bounds.specs.Bounds.{BeginningsAreShort, HaltedRunsAreShort, LettersAreFew, InputsOnlyGrow, RunsAreShort};
 
 /// Of each accepted script the run is short: after each of its lines nodes have accepted at most
 /// 41,984 inputs, and there are no more events than accepted inputs. So it is whichever inputs are
-/// halts, and by both readings.
+/// halts, and by both readings. Within a line their number only grows.
 pub fn runs_are_short()
     ensures beginnings { BeginningsAreShort }
+    ensures moments { InputsOnlyGrow }
     ensures halted { HaltedRunsAreShort }
     ensures whole { RunsAreShort }
+{}
+
+/// An event of a run sends at most 81 letters, so a run of a script has fewer than four million.
+pub fn letters_are_few()
+    ensures { LettersAreFew }
 {}
