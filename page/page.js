@@ -242,8 +242,10 @@ function hang(picture) {
     mark.setAttribute("role", "option");
     mark.setAttribute("aria-label", title.replace(/\s*\n\s*/g, "; "));
   }
-  const heads = [...svg.querySelectorAll(".head")].map((head) => {
-    const span = make("span", {}, head.textContent, make("small", {}, head.nextElementSibling?.textContent ?? ""));
+  // (the heads of lanes and columns stay in sight)
+  const heads = [...svg.querySelectorAll(".head, .column")].map((head) => {
+    const kept = head.matches(".head") ? make("small", {}, head.nextElementSibling?.textContent ?? "") : null;
+    const span = make("span", { class: kept ? null : "column" }, head.textContent, kept);
     span.style.left = `${(Number(head.getAttribute("x")) / width) * 100}%`;
     return span;
   });

@@ -22,6 +22,8 @@ class Browser:
         self.back, from_browser = os.pipe()
         # (the browser reads descriptor 3 and writes descriptor 4)
         words = [program, "--headless=new", "--no-sandbox", "--disable-gpu", "--no-first-run", "--hide-scrollbars"]
+        # (else a page may change its address 200 times in ten seconds, and no more: a person does not, and the test does)
+        words += ["--disable-ipc-flooding-protection"]
         words += ["--remote-debugging-pipe", f"--user-data-dir={self.profile.name}", f"--window-size={width},{height}", "about:blank"]
         self.process = subprocess.Popen(
             ["sh", "-c", f'exec "$@" 3<&{to_browser} 4>&{from_browser} 2>/dev/null', "sh", *words], pass_fds=(to_browser, from_browser)
