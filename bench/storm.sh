@@ -31,12 +31,12 @@ use std::sync::atomic::{AtomicU64, Ordering};
 use std::thread::{Threads, yield_now};
 use std::time::Instant;
 
-const ROUNDS: u32 = 9;
+const ROUNDS: u32 = 5;
 
 const ACTIONS: u32 = 64;
 
 /// How many actions the script has.
-const SCRIPT_ACTIONS: u32 = 32;
+const SCRIPT_ACTIONS: u32 = 34;
 
 /// How often a worker looks for its turn before it takes it from one that has ended.
 const PATIENCE: u32 = 100_000;
@@ -142,8 +142,14 @@ fn storm<R: Threads + Wait + Sync, G: Gate + Sync>(
     })
 }
 
+fn show(rt: &HostRuntime, what: &str, events: u128, one: u128) -> Result<(), Error> {
+    let hundredths = events.saturating_mul(100) / one.max(1);
+    println!(rt; "  {what}: {events} events a second, {hundredths} hundredths of one worker's")?;
+    Ok(())
+}
+
 /// A script of so many actions, each of which calls a counter of each of four nodes and commits, in a
-/// play of its own: 30 events each.
+/// play of its own: 26 events each.
 fn script_text(alloc: Global, actions: u32) -> Result<String, Error> {
     let mut text = String::new(alloc);
     text.push_str("nodes 4\n")?;
@@ -188,8 +194,9 @@ fn run(rt: &HostRuntime, script: &Script) -> Result<Times, Error>
 }
 
 /// How many events there are in a second this way, in a storm of this seed or a run of the script.
-fn measured(
+fn measured<R: Threads + Wait + Sync>(
     rt: &HostRuntime,
+    handle: &R,
     script: &Script,
     way: Way,
     seed: u64,
@@ -198,14 +205,14 @@ fn measured(
     requires script { IsScript script.now }
 {
     let times = match way {
-        Way::Workers(1) => storm(rt, rt, seed, calm, 1, &OpenGate)?,
-        Way::Workers(2) => storm(rt, rt, seed, calm, 2, &OpenGate)?,
-        Way::Workers(_) => storm(rt, rt, seed, calm, 4, &OpenGate)?,
+        Way::Workers(1) => storm(rt, handle, seed, calm, 1, &OpenGate)?,
+        Way::Workers(2) => storm(rt, handle, seed, calm, 2, &OpenGate)?,
+        Way::Workers(_) => storm(rt, handle, seed, calm, 4, &OpenGate)?,
         Way::OneOfFour => {
             let gate = OneAtATime {
                 turn: AtomicU64::new(0),
             };
-            storm(rt, rt, seed, calm, 4, &gate)?
+            storm(rt, handle, seed, calm, 4, &gate)?
         }
         Way::Run => run(rt, script)?,
     };
@@ -218,7 +225,12 @@ fn median(mut rates: Vec<u128>) -> Result<u128, Error> {
 }
 
 /// All ways, in rounds: a line for each.
-fn compare(rt: &HostRuntime, script: &Script, calm: bool) -> Result<(), Error>
+fn compare<R: Threads + Wait + Sync>(
+    rt: &HostRuntime,
+    handle: &R,
+    script: &Script,
+    calm: bool,
+) -> Result<(), Error>
     requires script { IsScript script.now }
 {
     let alloc = rt.alloc();
@@ -226,12 +238,13 @@ fn compare(rt: &HostRuntime, script: &Script, calm: bool) -> Result<(), Error>
     let (mut in_turn, mut runs) = (Vec::new(alloc), Vec::new(alloc));
     for round in 0..ROUNDS {
         let seed = u64::from(round);
-        one.push(measured(rt, script, Way::Workers(1), seed, calm)?)?;
-        two.push(measured(rt, script, Way::Workers(2), seed, calm)?)?;
-        four.push(measured(rt, script, Way::Workers(4), seed, calm)?)?;
-        in_turn.push(measured(rt, script, Way::OneOfFour, seed, calm)?)?;
-        runs.push(measured(rt, script, Way::Run, seed, calm)?)?;
+        one.push(measured(rt, handle, script, Way::Workers(1), seed, calm)?)?;
+        two.push(measured(rt, handle, script, Way::Workers(2), seed, calm)?)?;
+        four.push(measured(rt, handle, script, Way::Workers(4), seed, calm)?)?;
+        runs.push(measured(rt, handle, script, Way::Run, seed, calm)?)?;
     }
+    // (once, since beside other work each change of turns waits for a processor)
+    in_turn.push(measured(rt, handle, script, Way::OneOfFour, 0, calm)?)?;
     let one = median(one)?;
     show(rt, "1 worker a node", one, one)?;
     show(rt, "2 workers a node", median(two)?, one)?;
@@ -248,13 +261,13 @@ fn main(rt: HostRuntime) -> Result<(), Error> {
     for calm in [true, false] {
         let mode = if calm { "calm" } else { "rough" };
         println!(&rt; "{mode}")?;
-        compare(&rt, &script, calm)?;
+        compare(&rt, &rt, &script, calm)?;
     }
     Ok(())
 }
 PROGRAM
 if [ "${1-}" = --quick ]; then
-    rt try
+    rt try --seconds 400
 else
     rt run
 fi
