@@ -1,5 +1,5 @@
 -- A diagram is well-formed, whatever its scene says.
-use Rattle.std.proofs.Common.{ℕ, ◌+◌, ◌*◌, refl, ◌≡◌, subst, sym, List, [], ◌∷◌, ◌++◌, length, map, reverse, codes, string_bytes, String, Option, Some, None, slice_get}
+use Rattle.std.proofs.Common.{ℕ, ◌+◌, ◌*◌, nat_lt, refl, ◌≡◌, subst, sym, List, [], ◌∷◌, ◌++◌, length, map, reverse, codes, string_bytes, String, Option, Some, None, slice_get}
 use Rattle.std.specs.declared.alloc.Global.{Global}
 use Rattle.std.specs.Option.{option_map_or}
 use Rattle.cam_event.specs.declared.Event.{Event}
@@ -19,7 +19,7 @@ use Rattle.cam_diagram.specs.Marks.{arrow_text}
 use Rattle.cam_diagram.specs.Stubs.{stub_text}
 use Rattle.cam_diagram.specs.Labels.{arrow_label, stub_label}
 use Rattle.cam_diagram.specs.Lanes.{halt_label, halt_lane, halt_mark, halt_words, head, kept, lane_text, lanes_text, post, posts_from, vertical}
-use Rattle.cam_diagram.specs.Dots.{beside, beside_at, caption_text, deeds_title, dot_number, dot_parts, dot_shape, dot_tag, dot_text, dots_text, line_text, words_tag, words_text}
+use Rattle.cam_diagram.specs.Dots.{beside, beside_at, caption_text, deeds_title, dot_number, dot_parts, dot_shape, dot_tag, dot_text, dots_text, line_text, number_class, words_tag, words_text}
 use Rattle.cam_diagram.specs.Diagram.{column, columns, diagram, document, extent, labels, lines, looks, namespace, outline, picture, posts, posts_tag, rect, root_tag, rows, rows_tag, sheet, size, sizes, tip, tip_place, tip_tag, view_box}
 use Rattle.cam_diagram.proofs.Parts.{arrow_is, arrow_label_is, class_is, each_is, line_end, number, number_is, numbered_is, point_is, set_is, stub_is, stub_label_is, text_tag_is, translation_is, word}
 
@@ -140,7 +140,7 @@ dot_shape_is n d =
 dot_number_is : (n : ℕ) (d : Dot) → IsContent (dot_number n d)
 unfolding dot_number
 dot_number_is n d =
-    element (codes "text") refl (text_tag_is (codes "number") (x_of d.node) (y_of n + 4)) (text_content (number n))
+    element (codes "text") refl (text_tag_is (number_class (nat_lt n 1000)) (x_of d.node) (y_of n + 4)) (text_content (number n))
 
 dot_is : (captions : List Caption) (right n : ℕ) (d : Dot) → IsContent (dot_text captions right n d)
 unfolding dot_text dot_parts

@@ -1,6 +1,6 @@
 -- Dots as SVG, with the words of their events.
 use Rattle.std.specs.declared.alloc.Global.{Global}
-use Rattle.std.specs.Prelude.{ℕ, ◌+◌, ◌*◌, Option, String, List, [], ◌∷◌, ◌++◌, slice_get, codes, decimal, string_bytes}
+use Rattle.std.specs.Prelude.{ℕ, ◌+◌, ◌*◌, nat_lt, Bool, true, false, Option, String, List, [], ◌∷◌, ◌++◌, slice_get, codes, decimal, string_bytes}
 use Rattle.std.specs.Option.{option_map_or}
 use Rattle.cam_xml.specs.WellFormed.{element_text, empty_element_text, escaped}
 use Rattle.cam_diagram.specs.declared.Dot.{Dot}
@@ -52,10 +52,15 @@ dot_shape number dot =
     (set (codes "class") (codes "sign") ++ translation (x_of dot.node) (y_of number)
     ++ set (codes "d") (sign_shape dot.sign))
 
+-- numbers of four digits are small
+unfoldable pub number_class : Bool → List ℕ
+number_class true = codes "number"
+number_class false = codes "number small"
+
 unfoldable pub dot_number : ℕ → Dot → List ℕ
 dot_number number dot =
     element_text (codes "text")
-    (text_tag (codes "number") (x_of dot.node) (y_of number + 4)) (decimal number)
+    (text_tag (number_class (nat_lt number 1000)) (x_of dot.node) (y_of number + 4)) (decimal number)
 
 unfoldable pub dot_parts : List Caption → ℕ → ℕ → Dot → List ℕ
 dot_parts captions right number dot =

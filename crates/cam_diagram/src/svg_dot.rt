@@ -2,7 +2,7 @@
 ghost use Rattle.std.specs.Prelude.{◌≡◌, ◌+◌, ◌++◌, OnOk, codes, slice_get, string_bytes};
 ghost use Rattle.std.specs.Option.{option_copied};
 ghost use Rattle.cam_xml.specs.WellFormed.{element_text, escaped};
-ghost use Rattle.cam_diagram.specs.Dots.{dot_parts, words_tag, beside, beside_at, caption_at, caption_text, deeds_title, dot_number, dot_shape, dot_tag, dot_text, dots_text, line_text, words_text};
+ghost use Rattle.cam_diagram.specs.Dots.{dot_parts, words_tag, beside, beside_at, caption_at, caption_text, deeds_title, dot_number, dot_shape, dot_tag, dot_text, dots_text, line_text, number_class, words_text};
 
 use crate::places::{
     is_lit, write_class, write_numbered, write_text_start, write_text_tag, write_translation, x_of,
@@ -142,12 +142,25 @@ fn write_shape(xml: &mut Xml, number: u64, dot: &Dot) -> Result<(), NoMemory>
     xml.end_tag()
 }
 
+/// The class of a number. One of four digits is small.
+#[tactic(auto, unfolding(crate::specs::Dots::number_class))]
+fn number_class(fits: bool) -> &'static str
+    ensures { result.now ≡ number_class fits }
+{
+    if fits { "number" } else { "number small" }
+}
+
 /// Writes the number of an event, on its sign.
 #[tactic(auto, unfolding(crate::specs::Dots::dot_number))]
 fn write_number(xml: &mut Xml, number: u64, dot: &Dot) -> Result<(), NoMemory>
     ensures { OnOk result (xml.new ≡ xml.old ++ dot_number number dot.now) }
 {
-    write_text_tag(xml, "number", x_of(dot.node), y_of(number) + 4)?;
+    write_text_tag(
+        xml,
+        number_class(number < 1000),
+        x_of(dot.node),
+        y_of(number) + 4,
+    )?;
     xml.number(number as u128)?;
     xml.end_element("text")
 }

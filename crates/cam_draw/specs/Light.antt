@@ -10,7 +10,9 @@ use Rattle.cam_event.specs.Pasts.{holds, in_past}
 use Rattle.cam_why.specs.declared.link.Link.{Link}
 use Rattle.cam_why.specs.declared.link.Why.{Why}
 use Rattle.cam_why.specs.Causes.{IsWhole}
-use Rattle.cam_why.specs.Passes.{IsWhy}
+use Rattle.cam_why.specs.declared.fault.WhyFault.{WhyFault}
+use Rattle.cam_why.specs.declared.fault.WhyFault.TheVariants.{NoMemory}
+use Rattle.cam_why.specs.Passes.{IsWhy, Refuses}
 use Rattle.cam_draw.specs.declared.light.Highlight.{Highlight}
 use Rattle.cam_draw.specs.declared.light.Highlight.TheVariants as highlights
 use Rattle.cam_draw.specs.declared.light.Light.{Light}
@@ -85,3 +87,9 @@ abbrev pub IsLight : List Event → Highlight → Light → Type 0
 IsLight t highlights.Nothing light = light ≡ All
 IsLight t (highlights.Action a) light = IsPastOf t a light
 IsLight t (highlights.Stop j) light = IsWayTo t j light
+
+-- Why nothing is drawn: memory ran out; or a stop is to be lit, and the event of this number stops nothing.
+abbrev pub IsRefusal : List Event → Highlight → WhyFault → Type 0
+IsRefusal t highlights.Nothing fault = fault ≡ NoMemory
+IsRefusal t (highlights.Action a) fault = fault ≡ NoMemory
+IsRefusal t (highlights.Stop j) fault = IsWhole t → Refuses t j fault

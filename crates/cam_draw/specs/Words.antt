@@ -75,7 +75,12 @@ abbrev pub or_else : List ℕ → List ℕ → List ℕ
 or_else [] other = other
 or_else (c ∷ cs) other = c ∷ cs
 
--- The words in the row of an event: its note and its deeds, or else what it sent.
+unfoldable pub no_outcome : List ℕ
+no_outcome = codes "hears no outcome"
+
+-- The words in the row of an event: its note and its deeds, or else what it sent; by news alone it may hear of no action.
 abbrev pub words : Scope → List (List ℕ) → ℕ → Event → List ℕ
 words scope labels number e =
-    or_else (with_deeds scope.names labels (note_words scope.names e.note) None e.deeds) (sent_words scope number)
+    or_else
+    (or_else (with_deeds scope.names labels (note_words scope.names e.note) None e.deeds) (sent_words scope number))
+    no_outcome

@@ -1,8 +1,10 @@
 //! What is lit.
-ghost use Rattle.std.specs.Prelude.{◌≡◌, ℕ, ◌<◌, IfOk, length, reverse};
+ghost use Rattle.std.specs.Prelude.{◌≡◌, ℕ, ◌<◌, IfErr, IfOk, length, reverse};
 ghost use Rattle.std.specs.List.{list_any};
 ghost use Rattle.cam_event.specs.Pasts.{holds, in_past};
-ghost use Rattle.cam_draw.specs.Light.{IsLight, IsPastOf, IsWayTo, are_stubs_lit, is_end, is_letter_lit, is_lit, is_on_way, is_receipt, is_seen, is_set, last_seen};
+ghost use Rattle.cam_why.specs.Causes.{IsWhole};
+ghost use Rattle.cam_why.specs.Passes.{Refuses};
+ghost use Rattle.cam_draw.specs.Light.{IsLight, IsPastOf, IsRefusal, IsWayTo, are_stubs_lit, is_end, is_letter_lit, is_lit, is_on_way, is_receipt, is_seen, is_set, last_seen};
 
 use cam_base::NoMemory;
 use cam_event::{Deed, Deeds, Trace};
@@ -112,7 +114,8 @@ pub(crate) fn light_of(
     trace: &Trace,
     highlight: &Highlight,
 ) -> Result<Light, WhyFault>
-    ensures { IfOk result (IsLight (reverse trace.now) highlight.now) }
+    ensures lit { IfOk result (IsLight (reverse trace.now) highlight.now) }
+    ensures refused { IfErr result (IsRefusal (reverse trace.now) highlight.now) }
 {
     match highlight {
         Highlight::Nothing => Ok(Light::All),
@@ -190,7 +193,9 @@ fn sees(deed: &Deed, action: &Name) -> bool
 
 /// The way to a stop.
 fn way_to(alloc: Global, trace: &Trace, event: u32) -> Result<Light, WhyFault>
-    ensures { IfOk result (IsWayTo (reverse trace.now) event) }
+    ensures way { IfOk result (IsWayTo (reverse trace.now) event) }
+    ensures refused { IfErr result (λ fault. IsWhole (reverse trace.now)
+        → Refuses (reverse trace.now) event fault) }
 {
     let why = chain(alloc, trace, event)?;
     Ok(Light::Way {

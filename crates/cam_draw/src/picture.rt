@@ -1,6 +1,7 @@
 //! The picture of a run.
-ghost use Rattle.std.specs.Prelude.{IfOk, string_bytes};
+ghost use Rattle.std.specs.Prelude.{IfErr, IfOk, reverse, string_bytes};
 ghost use Rattle.cam_xml.specs.WellFormed.{IsDocument};
+ghost use Rattle.cam_draw.specs.Light.{IsRefusal};
 ghost use Rattle.cam_draw.specs.Drawing.{IsDrawing, IsScene};
 
 use crate::captions::{captions_of, widest};
@@ -61,6 +62,7 @@ pub fn draw_text(
 ) -> Result<String, WhyFault>
     ensures drawn { IfOk result (λ text.
         IsDrawing script.now run.now scope.now highlight.now (string_bytes text)) }
+    ensures refused { IfErr result (IsRefusal (reverse run.now.trace) highlight.now) }
     ensures well_formed { IfOk result (λ text. IsDocument (string_bytes text)) }
 {
     let light = light_of(alloc, &run.trace, highlight)?;

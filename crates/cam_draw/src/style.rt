@@ -26,7 +26,7 @@ marker{overflow:visible}
 stroke-linejoin:round;paint-order:stroke}
 .before{text-anchor:end}.behind{text-anchor:start}.post{font-weight:bold}
 .sign{fill:#fff;stroke:#1b1f24;stroke-width:1.8}
-.number{font-size:9px;text-anchor:middle}
+.number{font-size:9px;text-anchor:middle}.small{font-size:7px}
 .idle .sign{stroke:#57606a;stroke-dasharray:2 2}.idle .words{fill:#57606a}
 .asking .sign{stroke-width:3.8}
 .commit .sign,.restart .sign{fill:#1b1f24}

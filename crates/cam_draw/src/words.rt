@@ -6,6 +6,7 @@ ghost use Rattle.cam_draw.specs.Words.{
   first_sent,
   is_news_of,
   joined,
+  no_outcome,
   or_else,
   sending,
   sent_words,
@@ -143,6 +144,17 @@ fn sent_or_else(scope: &Scope, number: usize, words: &mut String) -> Result<(), 
     }
 }
 
+/// Writes, where nothing is written, that a node hears of no action by what it received.
+#[tactic(auto, unfolding(crate::specs::Words::no_outcome))]
+fn no_outcome_or_else(words: &mut String) -> Result<(), NoMemory>
+    ensures { OnOk result (string_bytes words.new ≡ or_else (string_bytes words.old) no_outcome) }
+{
+    if words.is_empty() {
+        words.push_str("hears no outcome")?;
+    }
+    Ok(())
+}
+
 /// What happened at the event of this number, in one line: its note and its deeds, or else what it
 /// sent. What a node hears of its own decision is left out.
 pub(crate) fn words_of(
@@ -159,5 +171,6 @@ pub(crate) fn words_of(
     write_note(alloc, &scope.names, &event.note, &mut words)?;
     add_deeds(alloc, scope, labels, &event.deeds, &mut words)?;
     sent_or_else(scope, number, &mut words)?;
+    no_outcome_or_else(&mut words)?;
     Ok(words)
 }
