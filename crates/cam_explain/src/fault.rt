@@ -64,13 +64,10 @@ fn write_expected(
         return if first == b"object".as_slice() {
             Ok(out.push_str("  Expected: register, queue or counter.\n")?)
         } else {
-            say(
-                out,
-                &[
-                    "  Expected: read, write V or swap V of a register; size, put V or take of ",
-                    "a queue; read or add V of a counter.\n",
-                ],
-            )
+            Ok(out.push_str(
+                "  Expected: read, write V or swap V of a register; size, put V or take of \
+                 a queue; read or add V of a counter.\n",
+            )?)
         };
     }
     if place > 0 && cause == Cause::Misplaced {
@@ -79,7 +76,7 @@ fn write_expected(
         )?);
     }
     match form_of(first) {
-        Some(form) => say(out, &["  The form of the line: ", form.form, "\n"]),
+        Some(form) => say(out, "  The form of the line: ", form.form, "\n"),
         None => Ok(()),
     }
 }
@@ -109,7 +106,7 @@ fn write_near(
     match nearest.found() {
         Some(near) => {
             let text = String::from_utf8_lossy(alloc, near)?;
-            say(out, &["  A near word is `", &text, "`.\n"])
+            say(out, "  A near word is `", &text, "`.\n")
         }
         None => Ok(()),
     }
@@ -126,13 +123,13 @@ pub fn fault_text(
     cause: Cause,
 ) -> Result<String, NoMemory> {
     let mut text = String::new(alloc);
-    say(&mut text, &[file, ":"])?;
-    say_number(&mut text, "", u64::from(number), ":")?;
-    say_number(&mut text, "", u64::from(column), ":\n")?;
+    say(&mut text, file, ":", "")?;
+    say_number(&mut text, "", number as u64, ":")?;
+    say_number(&mut text, "", column as u64, ":\n")?;
     let line = source.line(number);
     write_pointed(alloc, line, column as usize, &mut text)?;
     say_number(&mut text, "  S", u64::from(cause.number()), ": ")?;
-    say(&mut text, &[cause_sentence(cause), "\n"])?;
+    say(&mut text, cause_sentence(cause), "\n", "")?;
     let place = words_before(line, column as usize);
     write_expected(line, place, cause, &mut text)?;
     write_near(alloc, source, number, place, cause, &mut text)?;

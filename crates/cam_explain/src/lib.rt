@@ -9,10 +9,14 @@
 #![tactic(auto)]
 
 mod actions;
+mod acts;
+mod course;
 mod fault;
 mod forms;
+mod held;
 mod letters;
 mod marks;
+mod moments;
 mod near;
 mod notes;
 mod open;

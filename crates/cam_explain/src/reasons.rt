@@ -1,68 +1,222 @@
 //! What stood against a refused line.
-use crate::open::open_child;
-use crate::standing::{Asked, Standing};
-use crate::stories::AllStandings;
-use crate::texts::{say, say_line, say_number};
+ghost use Rattle.std.specs.Prelude.{◌≡◌, ◌++◌, OnOk, string_bytes};
+ghost use Rattle.cam_explain.specs.Moments.{told_in};
+ghost use Rattle.cam_explain.specs.Reasons.{actor, against_text, by_actor, ended_text, halted_text, letter_of, lost_before, missing_text, no_letter_text, not_open_text, of_action, unanswered_text, unbound_text, undecided_text};
+
+use crate::acts::{actor, binder, letter_at, letter_of, node_of};
+use crate::course::Course;
+use crate::moments::Moment;
+use crate::standing::{Asked, OpenCall, Standing, before, open_child};
+use crate::texts::{say_action, say_number, say_object};
 use cam_base::NoMemory;
 use cam_event::LineRefusal;
 use cam_names::Name;
-use cam_scope::{Fate, Scope, object_text};
-use cam_script::{Act, Script, Step};
+use cam_scope::{Fate, NamedLetter, Scope};
+use cam_script::{Act, Script};
 use std::alloc::Global;
 
-/// The place of the word at which a refusal points, among the words of its line, from 0.
-pub(crate) fn pointed_by(step: &Step, refusal: LineRefusal) -> usize {
-    match (step.act, refusal) {
-        (Act::Query { .. }, LineRefusal::Unbound) => 2,
-        (Act::Query { .. }, LineRefusal::NothingToDo) => 2,
-        (Act::GiveUp { .. }, LineRefusal::NotOpen) => 2,
-        _ => 1,
+/// Appends which node is halted.
+fn write_halted(node: Option<u8>, out: &mut String) -> Result<(), NoMemory>
+    ensures { OnOk result (string_bytes out.new ≡ string_bytes out.old ++ halted_text node) }
+{
+    if let Some(node) = node {
+        say_number(out, "  It is node ", node as u64, ".\n")?;
+    }
+    Ok(())
+}
+
+/// Appends the line that should have bound the variable.
+fn write_unbound(
+    script: &Script,
+    scope: &Scope,
+    act: &Act,
+    out: &mut String,
+) -> Result<(), NoMemory>
+    ensures { OnOk result (string_bytes out.new ≡ string_bytes out.old
+        ++ unbound_text script.now scope.now act.now) }
+{
+    let Some(place) = binder(scope, act) else {
+        return Ok(());
+    };
+    match script.steps.get(place as usize) {
+        Some(step) => say_number(out, "  See line ", step.line as u64, ".\n"),
+        None => Ok(()),
     }
 }
 
-/// The place of the step whose variable a line is about, if it is about one.
-fn variable_of(step: &Step) -> Option<u32> {
-    match step.act {
-        Act::Ask { parent, .. } => Some(parent),
-        Act::Call { action, .. }
-        | Act::Commit { action, .. }
-        | Act::Abort { action }
-        | Act::GiveUp { action, .. }
-        | Act::Go { action }
-        | Act::Query { action, .. } => Some(action),
+/// The line that took out a letter, if it stands before this one.
+fn lost_before(line: u32, fate: Fate) -> Option<u32>
+    ensures { result ≡ lost_before line fate }
+{
+    match fate {
+        Fate::Lost(lost) => if lost < line { Some(lost) } else { None },
         _ => None,
     }
 }
 
-/// The number of the letter that a line is about, if it is about one.
-fn letter_of(step: &Step) -> Option<u32> {
-    match step.act {
-        Act::Deliver { letter } | Act::Cut { letter, .. } | Act::Lose { letter } => Some(letter),
-        _ => None,
+/// Appends what became of a letter that was not there for a line.
+fn write_missing(line: u32, letter: &NamedLetter, out: &mut String) -> Result<(), NoMemory>
+    ensures { OnOk result (string_bytes out.new ≡ string_bytes out.old
+        ++ missing_text letter.now (lost_before line letter.now.fate)) }
+{
+    match lost_before(line, letter.fate) {
+        Some(lost) => say_number(out, "  It was lost in line ", lost as u64, ".\n")?,
+        None => say_number(out, "  It is sent later, by event ", letter.id.event, ".\n")?,
+    }
+    Ok(())
+}
+
+/// Appends what became of the letter of a line.
+fn write_no_letter(scope: &Scope, line: u32, act: &Act, out: &mut String) -> Result<(), NoMemory>
+    ensures { OnOk result (string_bytes out.new ≡ string_bytes out.old
+        ++ no_letter_text scope.now line (letter_of act.now)) }
+{
+    let Some(number) = letter_of(act) else {
+        return Ok(());
+    };
+    match letter_at(scope, number) {
+        Some(letter) => write_missing(line, letter, out),
+        None => {
+            let letters = scope.letters.len() as u64;
+            say_number(out, "  The whole run sends ", letters, " letters.\n")
+        }
     }
 }
 
-/// The node that would have acted in a line, if it is known.
-fn node_of(scope: &Scope, step: &Step) -> Option<u8> {
-    match step.act {
-        Act::Begin { node }
-        | Act::Start { node, .. }
-        | Act::Tell { node, .. }
-        | Act::Query { node, .. }
-        | Act::Stop { node, .. } => Some(node),
-        _ => match letter_of(step) {
-            Some(number) => match scope.letters.get((number as usize).saturating_sub(1)) {
-                Some(letter) => Some(letter.to),
-                None => None,
-            },
-            None => match made_by(scope, step) {
-                Some(action) => {
-                    let (node, _) = action.home();
-                    Some(node)
-                }
-                None => None,
-            },
-        },
+/// Appends how an action had ended.
+fn write_ended(action: &Name, asked: Option<Asked>, out: &mut String) -> Result<(), NoMemory>
+    ensures { OnOk result (string_bytes out.new ≡ string_bytes out.old
+        ++ ended_text action.now asked) }
+{
+    match asked {
+        Some(Asked::ToCommit(line)) => {
+            say_number(out, "  It asked to commit in line ", line as u64, ".\n")?
+        }
+        Some(Asked::ToAbort(line)) => {
+            say_number(out, "  It asked to abort in line ", line as u64, ".\n")?
+        }
+        None => {
+            let (node, _) = action.home();
+            say_number(
+                out,
+                "  Its home, node ",
+                node as u64,
+                ", has restarted since.\n",
+            )?
+        }
+    }
+    Ok(())
+}
+
+/// Appends the call that has no answer.
+fn write_unanswered(
+    script: &Script,
+    call: Option<OpenCall>,
+    out: &mut String,
+) -> Result<(), NoMemory>
+    ensures { OnOk result (string_bytes out.new ≡ string_bytes out.old
+        ++ unanswered_text script.now call) }
+{
+    match call {
+        Some(call) => {
+            let behind = " has no answer.\n";
+            say_object(
+                &script.labels,
+                "  The call of ",
+                call.object,
+                call.line,
+                behind,
+                out,
+            )?;
+            Ok(())
+        }
+        None => Ok(()),
+    }
+}
+
+/// Appends the child that is not decided.
+fn write_undecided(
+    alloc: Global,
+    scope: &Scope,
+    child: Option<(Name, u32)>,
+    out: &mut String,
+) -> Result<(), NoMemory>
+    ensures { OnOk result (string_bytes out.new ≡ string_bytes out.old
+        ++ undecided_text scope.now child) }
+{
+    match child {
+        Some((child, line)) => {
+            let behind = " has neither committed nor aborted.\n";
+            say_action(
+                alloc,
+                &scope.names,
+                "  The child ",
+                &child,
+                line,
+                behind,
+                out,
+            )?;
+            Ok(())
+        }
+        None => Ok(()),
+    }
+}
+
+/// Why an action is not created, or a child not open.
+fn not_open_text(is_created: bool) -> &'static str
+    ensures { result.now ≡ not_open_text is_created }
+{
+    if is_created {
+        "  The child is decided, or was never asked for.\n"
+    } else {
+        "  No letter has brought it to its home yet.\n"
+    }
+}
+
+/// Appends what stood against the request of an action, by what had happened to it.
+fn write_of_action(
+    alloc: Global,
+    script: &Script,
+    scope: &Scope,
+    action: &Name,
+    moments: &[Moment],
+    refusal: LineRefusal,
+    out: &mut String,
+) -> Result<(), NoMemory>
+    ensures { OnOk result (string_bytes out.new ≡ string_bytes out.old
+        ++ of_action script.now scope.now action.now moments.now refusal) }
+{
+    let standing = Standing::of(moments);
+    match refusal {
+        LineRefusal::Ended => write_ended(action, standing.asked, out),
+        LineRefusal::OpenCall => write_unanswered(script, standing.call, out),
+        LineRefusal::OpenChild => write_undecided(alloc, scope, open_child(moments), out),
+        LineRefusal::NotOpen => { Ok(out.push_str(not_open_text(standing.created_at.is_some()))?) }
+        _ => Ok(()),
+    }
+}
+
+/// Appends what stood against the request of the action of a line, if it is about one.
+fn write_by_actor(
+    alloc: Global,
+    script: &Script,
+    scope: &Scope,
+    course: &Course,
+    line: u32,
+    act: &Act,
+    refusal: LineRefusal,
+    out: &mut String,
+) -> Result<(), NoMemory>
+    ensures { OnOk result (string_bytes out.new ≡ string_bytes out.old
+        ++ by_actor script.now scope.now (told_in course.now) line refusal
+        (actor scope.now act.now)) }
+{
+    match actor(scope, act) {
+        Some(action) => {
+            let moments = before(course.moments(&action), line);
+            write_of_action(alloc, script, scope, &action, moments, refusal, out)
+        }
+        None => Ok(()),
     }
 }
 
@@ -71,160 +225,19 @@ pub(crate) fn write_against(
     alloc: Global,
     script: &Script,
     scope: &Scope,
-    all: &AllStandings,
-    step: &Step,
+    course: &Course,
+    line: u32,
+    act: &Act,
     refusal: LineRefusal,
     out: &mut String,
-) -> Result<(), NoMemory> {
+) -> Result<(), NoMemory>
+    ensures { OnOk result (string_bytes out.new ≡ string_bytes out.old
+        ++ against_text script.now scope.now (told_in course.now) line act.now refusal) }
+{
     match refusal {
-        LineRefusal::Unbound => write_unbound(script, scope, step, out),
-        LineRefusal::NoLetter => write_no_letter(scope, step, out),
-        LineRefusal::Halted => match node_of(scope, step) {
-            Some(node) => say_number(out, "  It is node ", u64::from(node), ".\n"),
-            None => Ok(()),
-        },
-        _ => match made_by(scope, step) {
-            Some(action) => write_of_action(alloc, script, scope, all, &action, refusal, out),
-            None => Ok(()),
-        },
-    }
-}
-
-/// The action for which the variable of a line stands.
-fn made_by(scope: &Scope, step: &Step) -> Option<Name> {
-    match variable_of(step) {
-        Some(place) => scope.made(place),
-        None => None,
-    }
-}
-
-/// The place of the step that should have bound the variable that a line is about.
-fn unbound_of(scope: &Scope, step: &Step) -> Option<u32> {
-    match step.act {
-        Act::GiveUp { action, child } => {
-            if scope.made(action).is_some() {
-                Some(child)
-            } else {
-                Some(action)
-            }
-        }
-        _ => variable_of(step),
-    }
-}
-
-/// Appends the line that should have bound the variable.
-fn write_unbound(
-    script: &Script,
-    scope: &Scope,
-    step: &Step,
-    out: &mut String,
-) -> Result<(), NoMemory> {
-    let Some(place) = unbound_of(scope, step) else {
-        return Ok(());
-    };
-    match script.steps.get(place as usize) {
-        Some(binding) => say_number(out, "  See line ", u64::from(binding.line), ".\n"),
-        None => Ok(()),
-    }
-}
-
-/// Appends what became of the letter.
-fn write_no_letter(scope: &Scope, step: &Step, out: &mut String) -> Result<(), NoMemory> {
-    let Some(number) = letter_of(step) else {
-        return Ok(());
-    };
-    match scope.letters.get((number as usize).saturating_sub(1)) {
-        Some(letter) => match letter.fate {
-            Fate::Lost(line) => say_number(out, "  It was lost in line ", u64::from(line), ".\n"),
-            _ => say_number(out, "  It is sent later, by event ", letter.id.event, ".\n"),
-        },
-        None => say_number(
-            out,
-            "  The whole run sends ",
-            scope.letters.len() as u64,
-            " letters.\n",
-        ),
-    }
-}
-
-/// Appends what stood against the request of an action.
-fn write_of_action(
-    alloc: Global,
-    script: &Script,
-    scope: &Scope,
-    all: &AllStandings,
-    action: &Name,
-    refusal: LineRefusal,
-    out: &mut String,
-) -> Result<(), NoMemory> {
-    let Some(standing) = all.actions.get(action) else {
-        return write_uncreated(action, refusal, out);
-    };
-    match refusal {
-        LineRefusal::Ended => write_ended(action, standing, out),
-        LineRefusal::OpenCall => match standing.call {
-            Some(call) => {
-                let object = object_text(&script.labels, call.object);
-                say(out, &["  The call of ", object])?;
-                say_line(out, call.line)?;
-                Ok(out.push_str(" has no answer.\n")?)
-            }
-            None => Ok(()),
-        },
-        LineRefusal::OpenChild => match open_child(all, action) {
-            Some((child, line)) => {
-                out.push_str("  The child ")?;
-                scope.names.write_name(alloc, &child, out)?;
-                say_line(out, line)?;
-                Ok(out.push_str(" has neither committed nor aborted.\n")?)
-            }
-            None => Ok(()),
-        },
-        LineRefusal::NotOpen => if standing.created_at.is_some() {
-            Ok(out.push_str("  The child is decided, or was never asked for.\n")?)
-        } else {
-            Ok(out.push_str("  No letter has brought it to its home yet.\n")?)
-        },
-        _ => Ok(()),
-    }
-}
-
-/// Appends what stood against the request of an action that was not created.
-fn write_uncreated(action: &Name, refusal: LineRefusal, out: &mut String) -> Result<(), NoMemory> {
-    if refusal == LineRefusal::Ended {
-        return write_restarted(action, out);
-    }
-    Ok(out.push_str("  No letter has brought it to its home yet.\n")?)
-}
-
-/// Appends that the home of an action has restarted.
-fn write_restarted(action: &Name, out: &mut String) -> Result<(), NoMemory> {
-    let (node, _) = action.home();
-    say_number(
-        out,
-        "  Its home, node ",
-        u64::from(node),
-        ", has restarted since.\n",
-    )
-}
-
-/// Appends how an action had ended.
-fn write_ended(action: &Name, standing: &Standing, out: &mut String) -> Result<(), NoMemory> {
-    match standing.asked {
-        Some(Asked::ToCommit(line)) => {
-            say_number(out, "  It asked to commit in line ", u64::from(line), ".\n")
-        }
-        Some(Asked::ToAbort(line)) => {
-            say_number(out, "  It asked to abort in line ", u64::from(line), ".\n")
-        }
-        None => {
-            let (node, _) = action.home();
-            say_number(
-                out,
-                "  Its home, node ",
-                u64::from(node),
-                ", has restarted since.\n",
-            )
-        }
+        LineRefusal::Unbound => write_unbound(script, scope, act, out),
+        LineRefusal::NoLetter => write_no_letter(scope, line, act, out),
+        LineRefusal::Halted => write_halted(node_of(scope, act), out),
+        _ => write_by_actor(alloc, script, scope, course, line, act, refusal, out),
     }
 }

@@ -1,140 +1,145 @@
 //! A whole run in words.
+ghost use Rattle.std.specs.Prelude.{◌≡◌, [], IfOk, OnOk, reverse, string_bytes};
+ghost use Rattle.cam_event.specs.History.{after};
+ghost use Rattle.cam_report.specs.Report.{values_from};
+ghost use Rattle.cam_why.specs.Causes.{IsWhole};
+ghost use Rattle.cam_explain.specs.Explained.{explained, with_part};
+ghost use Rattle.cam_explain.specs.Marks.{marks_text};
+ghost use Rattle.cam_explain.specs.Moments.{told_in};
+ghost use Rattle.cam_explain.specs.Notes.{letters_from, notes_from};
+ghost use Rattle.cam_explain.specs.Stops.{stops_from};
+ghost use Rattle.cam_explain.specs.Stories.{actions_text};
+
 use crate::actions::write_actions;
+use crate::course::{Course, course_of};
 use crate::letters::write_letters;
-use crate::marks::write_mark;
+use crate::marks::write_marks;
 use crate::notes::write_notes;
 use crate::stops::write_stops;
-use crate::stories::{AllStandings, Place};
 use cam_base::NoMemory;
-use cam_event::{Mark, RunRecord};
+use cam_event::{Deeds, RunRecord};
 use cam_report::{deeds_of, write_values};
 use cam_scope::{Lines, Scope};
 use cam_script::Script;
 use std::alloc::Global;
 
-/// The line of a mark.
-fn line_of(mark: &Mark) -> u32 {
-    match mark {
-        Mark::Refused { line, .. } | Mark::Cut { line, .. } | Mark::Halted { line, .. } => *line,
+/// Appends a part behind an empty line, unless it is empty or the first.
+fn add_part(text: &mut String, part: &str) -> Result<(), NoMemory>
+    ensures { OnOk result (string_bytes text.new ≡ with_part (string_bytes text.old) part.now) }
+{
+    if part.is_empty() {
+        return Ok(());
     }
+    if !text.is_empty() {
+        text.push_str("\n")?;
+    }
+    Ok(text.push_str(part)?)
 }
 
-/// The line of an event, 0 where it has none.
-fn event_line(scope: &Scope, number: usize) -> u32 {
-    match scope.events.get(number) {
-        Some(event) => event.line.unwrap_or(0),
-        None => 0,
-    }
-}
-
-/// Takes in the events from a place on that happened in lines before this one, and gives the place
-/// behind them.
-fn take_events(
+/// What each action did and saw.
+fn actions_of(
+    alloc: Global,
     script: &Script,
     scope: &Scope,
-    run: &RunRecord,
-    from: usize,
-    before: u32,
-    all: &mut AllStandings,
-) -> Result<usize, NoMemory> {
-    let trace = run.trace.as_slice();
-    let mut behind = from;
-    for number in from..trace.len() {
-        let line = event_line(scope, number);
-        if line >= before {
-            break;
-        }
-        let place = Place {
-            event: number,
-            line,
-        };
-        all.take_event(script, scope, place, &trace[number])?;
-        behind = number + 1;
-    }
-    Ok(behind)
+    course: &Course,
+    deeds: &Deeds,
+) -> Result<String, NoMemory>
+    ensures { IfOk result (λ text. string_bytes text
+        ≡ actions_text script.now scope.now (told_in course.now) (reverse deeds.now)) }
+{
+    let mut text = String::new(alloc);
+    write_actions(alloc, script, scope, course, deeds.as_slice(), &mut text)?;
+    Ok(text)
 }
 
-/// The place of the step of a line, from a place on.
-fn step_from(script: &Script, from: usize, line: u32) -> usize {
-    let steps = script.steps.as_slice();
-    for place in from..steps.len() {
-        if steps[place].line >= line {
-            return place;
-        }
-    }
-    steps.len()
-}
-
-/// Appends the marks, each with how the actions stood at its line; behind the last, all events are
-/// taken in.
-fn write_marks(
+/// Adds the marks of lines.
+fn add_marks(
     alloc: Global,
     source: &Lines<'_>,
     script: &Script,
     scope: &Scope,
+    course: &Course,
     run: &RunRecord,
-    all: &mut AllStandings,
-    out: &mut String,
-) -> Result<(), NoMemory> {
-    let mut taken = 0;
-    let mut at = 0;
-    for mark in run.marks.as_slice() {
-        let line = line_of(mark);
-        taken = take_events(script, scope, run, taken, line, all)?;
-        at = step_from(script, at, line);
-        if let Some(step) = script.steps.get(at) {
-            write_mark(alloc, source, script, scope, all, step, mark, out)?;
-        }
-    }
-    take_events(script, scope, run, taken, u32::MAX, all)?;
-    Ok(())
+    text: &mut String,
+) -> Result<(), NoMemory>
+    ensures { OnOk result (string_bytes text.new ≡ with_part (string_bytes text.old)
+        (marks_text source.now script.now scope.now (told_in course.now) run.now.marks)) }
+{
+    let mut marks = String::new(alloc);
+    write_marks(alloc, source, script, scope, course, &run.marks, &mut marks)?;
+    add_part(text, &marks)
 }
 
-/// Appends a part behind an empty line, unless it is empty.
-fn add_part(text: &mut String, part: &str) -> Result<(), NoMemory> {
-    if !part.is_empty() {
-        if !text.is_empty() {
-            text.push_str("\n")?;
-        }
-        text.push_str(part)?;
-    }
-    Ok(())
+/// Adds the stops.
+fn add_stops(
+    alloc: Global,
+    scope: &Scope,
+    run: &RunRecord,
+    text: &mut String,
+) -> Result<(), NoMemory>
+    ensures { OnOk result (IsWhole (reverse run.now.trace)
+        → string_bytes text.new ≡ with_part (string_bytes text.old)
+        (stops_from scope.now (reverse run.now.trace) 0 run.now.trace)) }
+{
+    let mut stops = String::new(alloc);
+    write_stops(alloc, scope, run, &mut stops)?;
+    add_part(text, &stops)
 }
 
-/// The values of the objects, a line each.
-fn values_text(alloc: Global, script: &Script, run: &RunRecord) -> Result<String, NoMemory> {
-    let mut text = String::new(alloc);
-    let deeds = deeds_of(alloc, &run.trace)?;
-    write_values(alloc, script, &deeds, &mut text)?;
-    Ok(text)
+/// Adds the notes of events, and the letters that no event received.
+fn add_notes(
+    alloc: Global,
+    scope: &Scope,
+    run: &RunRecord,
+    text: &mut String,
+) -> Result<(), NoMemory>
+    ensures { OnOk result (string_bytes text.new
+        ≡ with_part (with_part (string_bytes text.old) (notes_from scope.now 0 run.now.trace))
+        (letters_from 1 scope.now.letters)) }
+{
+    let mut notes = String::new(alloc);
+    write_notes(scope, &run.trace, &mut notes)?;
+    add_part(text, &notes)?;
+    let mut letters = String::new(alloc);
+    write_letters(scope.letters.as_slice(), &mut letters)?;
+    add_part(text, &letters)
+}
+
+/// Adds the values of the objects.
+fn add_values(
+    alloc: Global,
+    script: &Script,
+    deeds: &Deeds,
+    text: &mut String,
+) -> Result<(), NoMemory>
+    ensures { OnOk result (string_bytes text.new ≡ with_part (string_bytes text.old)
+        (values_from script.now.objects (after [] deeds.now) 0 script.now.labels)) }
+{
+    let mut values = String::new(alloc);
+    write_values(alloc, script, deeds, &mut values)?;
+    add_part(text, &values)
 }
 
 /// The run of a script in words: what each action did and saw, and for what it waits if it is open;
 /// the marks of lines, with what stood against each refused one; the stops, with the letters that
-/// led to each; the letters that no event received; the values of the objects.
+/// led to each; the notes of events; the letters that no event received; the values of the objects.
+/// To the byte it is the text that `explained` gives of the run.
 pub fn explain_text(
     alloc: Global,
     source: &Lines<'_>,
     script: &Script,
     run: &RunRecord,
     scope: &Scope,
-) -> Result<String, NoMemory> {
-    let mut all = AllStandings::new(alloc);
-    let mut marks = String::new(alloc);
-    write_marks(alloc, source, script, scope, run, &mut all, &mut marks)?;
-    let mut text = String::new(alloc);
-    write_actions(alloc, script, scope, &all, &mut text)?;
-    add_part(&mut text, &marks)?;
-    let mut stops = String::new(alloc);
-    write_stops(alloc, scope, run, &mut stops)?;
-    add_part(&mut text, &stops)?;
-    let mut notes = String::new(alloc);
-    write_notes(scope, run, &mut notes)?;
-    add_part(&mut text, &notes)?;
-    let mut letters = String::new(alloc);
-    write_letters(scope, &mut letters)?;
-    add_part(&mut text, &letters)?;
-    let values = values_text(alloc, script, run)?;
-    add_part(&mut text, &values)?;
+) -> Result<String, NoMemory>
+    ensures { IfOk result (λ text. IsWhole (reverse run.now.trace)
+        → string_bytes text ≡ explained source.now script.now scope.now run.now) }
+{
+    let course = course_of(alloc, &scope.events, &run.trace)?;
+    let deeds = deeds_of(alloc, &run.trace)?;
+    let mut text = actions_of(alloc, script, scope, &course, &deeds)?;
+    add_marks(alloc, source, script, scope, &course, run, &mut text)?;
+    add_stops(alloc, scope, run, &mut text)?;
+    add_notes(alloc, scope, run, &mut text)?;
+    add_values(alloc, script, &deeds, &mut text)?;
     Ok(text)
 }

@@ -1,0 +1,5 @@
+use Rattle.cam_explain.proofs.Joined.{three}
+use Rattle.cam_explain.proofs.stops.write_crashed.Goals as goal
+
+pub returns : goal.returns
+returns c = three _ _ _ _ _ _ _ c.in_ok-say_number.ensures c.in_ok-say_number-2.ensures c.in_ok-push_number.ensures

@@ -1,0 +1,11 @@
+pub mod Parts
+pub mod Moments
+pub mod Standings
+pub mod Open
+pub mod Stories
+pub mod Pointed
+pub mod Reasons
+pub mod Marks
+pub mod Stops
+pub mod Notes
+pub mod Explained
