@@ -1,8 +1,8 @@
 #!/bin/sh
-# How long the words of camscope take for a script, as a multiple of the time of `camelot trace` on the same script, and how each grows with
-# the script: beside each size stands its time for each event, as a multiple of that of the first size. The scripts are: actions that commit over
-# eight nodes, up to some 1,500 events; actions that stay open with many refused lines; and parents of many children that are given up, so that
-# they are stopped. Each time is the least of twenty runs, less that of a script without a step.
+# How long the words of camscope take for a script, as a multiple of the time of `camelot trace` on the same script. That time grows with the
+# events and marks (`whole.sh`), so a word whose multiple stays with the size grows as they do. The scripts are: actions that commit over eight
+# nodes, up to some 1,500 events; actions that stay open with many refused lines; and children that are given up and stopped. Each time is the
+# processor's for the whole program, the median of forty runs.
 # bench/scope.sh           wants both proved programs, or those that CAMELOT and CAMSCOPE name; and python3
 set -eu
 top=$(cd "$(dirname "$0")/.." && pwd)
@@ -14,12 +14,13 @@ for name in camelot camscope; do
     fi
 done
 exec python3 - "${CAMELOT:-$top/crates/cam_cli/out/cam_cli}" "${CAMSCOPE:-$top/crates/cam_camscope/out/cam_camscope}" <<'PROGRAM'
+import resource
+import statistics
 import subprocess
 import sys
-import time
 
 CAMELOT, CAMSCOPE = sys.argv[1:]
-ROUNDS = 20
+ROUNDS = 40
 NODES = range(1, 9)
 WORDS = ["explain", "columns", "draw", "shiviz", "check"]
 OBJECTS = ["nodes 8", *[f"object c{at} {at} counter 0" for at in NODES], *[f"object x{at} {at} register 0" for at in NODES]]
@@ -56,35 +57,33 @@ def script(lines):
     return ("\n".join([*OBJECTS, *lines]) + "\n").encode()
 
 
+def spent():
+    """The processor's time of the programs that have ended."""
+    used = resource.getrusage(resource.RUSAGE_CHILDREN)
+    return used.ru_utime + used.ru_stime
+
+
 def run(words, text):
-    """The text that a program writes, and the least time that it takes."""
-    least = None
+    """The text that a program writes, and the time that it takes."""
+    times = []
     for _ in range(ROUNDS):
-        began = time.perf_counter()
+        began = spent()
         told = subprocess.run(words, input=text, stdout=subprocess.PIPE, check=False)
-        took = time.perf_counter() - began
-        least = took if least is None else min(least, took)
+        times.append(spent() - began)
     assert told.returncode in (0, 1), (words, told.returncode)
-    return told.stdout, least
+    return told.stdout, statistics.median(times)
 
 
 def main():
-    empty = script([])
-    idle = {CAMELOT: run([CAMELOT, "trace"], empty)[1], CAMSCOPE: run([CAMSCOPE, "explain"], empty)[1]}
-    for name, lines, sizes in FAMILIES:
-        first = {}
+    for name, made, sizes in FAMILIES:
         for size in sizes:
-            text = script(lines(size))
+            text = script(made(size))
             trace, base = run([CAMELOT, "trace"], text)
-            base -= idle[CAMELOT]
-            events = sum(line.startswith(b"event ") for line in trace.splitlines())
-            told = []
-            for word in WORDS:
-                took = run([CAMSCOPE, word], text)[1] - idle[CAMSCOPE]
-                each = took / events
-                first.setdefault(word, each)
-                told.append(f"{word} {took / base:.2f} ({each / first[word]:.2f})")
-            print(f"{name}, {events} events: of the time of `trace`: " + "; ".join(told), flush=True)
+            lines = trace.splitlines()
+            events = sum(line.startswith(b"event ") for line in lines)
+            marks = sum(line.startswith(b"refused ") for line in lines)
+            told = [f"{word} {run([CAMSCOPE, word], text)[1] / base:.2f}" for word in WORDS]
+            print(f"{name}, {events} events, {marks} marks: " + ", ".join(told), flush=True)
 
 
 main()
