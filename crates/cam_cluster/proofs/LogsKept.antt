@@ -110,6 +110,7 @@ module _ {N D : Type 0} (tells_node : N → Bool) (node_reads : N → Logged →
     between = is.between;
     events = is.events;
     marks = is.marks;
+    asleep = is.asleep;
     known = is.known;
     logs = λ s logged low high awake read. is.logs s logged low high awake
         (reads_less nodes disks s logged out read);

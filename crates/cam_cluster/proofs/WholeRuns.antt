@@ -100,6 +100,7 @@ tells_of seen lines may_read at_work stands logs = record {
   between = stands.keeps.between.between;
   events = stands.keeps.between.keeps.runs.events;
   marks = stands.keeps.between.keeps.runs.all_marks;
+  asleep = stands.keeps.between.keeps.runs.whole.network.stands.nodes;
   known = stands.agrees;
   logs = logs;
   halted = λ s low high on. one_kept seen lines may_read stands.keeps.between s low high on;

@@ -54,16 +54,18 @@ pub record KeepsOneOf (seen : Seen) (s : ℕ) (may_read : Logged → Type 0) : T
       → KeepsHistoryOf seen.script s seen.standing logged
       ⊎ KeepsHistoryOf seen.script s (seen_found seen s).standing logged
 
--- THE CLAUSE of what a cluster tells between lines: events and marks are those of the run of its
--- lines so far, with the halts that are known. The log of each node that is not halted keeps the
--- node's history of that run, and the log of one that is halted one of its two. Of a node whose disk
--- has not failed by itself the halts are those of its stop lines, and by these it is known how many
--- calls its disk does more, and which of the two its log holds.
+-- THE CLAUSE of what a cluster tells between lines: events, marks and which nodes are halted are those
+-- of the run of its lines so far, with the halts that are known. The log of each node that is not
+-- halted keeps the node's history of that run, and the log of one that is halted one of its two. Of a
+-- node whose disk has not failed by itself the halts are those of its stop lines, and by these it is
+-- known how many calls its disk does more, and which of the two its log holds.
 pub record Tells (seen : Seen) (works : WorksFields) (may_read : ℕ → Logged → Type 0) : Type 0
   where
     pub between : IsBetweenLines seen
     pub events : works.events ≡ reverse seen.standing.running.trace
     pub marks : works.marks ≡ seen.standing.running.marks
+    pub asleep :
+        (s : ℕ) → 1 ≤ s → s ≤ 8 → is_halted works.halted s ≡ has_number seen.standing.halted s
     pub known :
         (s : ℕ) → has_failed works.failed s ≡ false → AgreesAt s (given seen.halts) seen.standing
     pub logs : KeepsLogs seen may_read
