@@ -1,2 +1,3 @@
 mod Flags
+mod Sights
 pub mod Drawn

@@ -7,6 +7,8 @@ use Rattle.cam_event.specs.declared.Event.{Event}
 use Rattle.cam_event.specs.declared.Deed.{Deed}
 use Rattle.cam_event.specs.declared.Deed.TheVariants.{Create, Ask, Call, Perform, Bounce, Got, AskCommit, AskAbort, Commit, Abort, Secure, Inform, Crash}
 use Rattle.cam_event.specs.Pasts.{holds, in_past}
+use Rattle.cam_event.specs.Views.{step_of}
+use Rattle.cam_cut.specs.Witness.{is_some_step}
 use Rattle.cam_why.specs.declared.link.Link.{Link}
 use Rattle.cam_why.specs.declared.link.Why.{Why}
 use Rattle.cam_why.specs.Causes.{IsWhole}
@@ -20,12 +22,12 @@ use Rattle.cam_draw.specs.declared.light.Light.TheVariants.{All, Past, Way}
 
 -- whether an action sees a deed: it is the action's own request, or what came of one, or the decision on a child
 abbrev pub is_seen : Name → Deed → Bool
-is_seen a (Create b) = name_eq b a
-is_seen a (Ask b child) = name_eq b a
-is_seen a (Call b n object op count) = name_eq b a
-is_seen a (Got b n seen) = name_eq b a
-is_seen a (AskCommit b v) = name_eq b a
-is_seen a (AskAbort b) = name_eq b a
+is_seen a (Create b) = name_eq a b
+is_seen a (Ask b child) = name_eq a b
+is_seen a (Call b n object op count) = name_eq a b
+is_seen a (Got b n seen) = name_eq a b
+is_seen a (AskCommit b v) = name_eq a b
+is_seen a (AskAbort b) = name_eq a b
 is_seen a (Commit b) = is_child a b
 is_seen a (Abort b) = is_child a b
 is_seen a (Perform b n answer) = false
@@ -93,3 +95,7 @@ abbrev pub IsRefusal : List Event → Highlight → WhyFault → Type 0
 IsRefusal t highlights.Nothing fault = fault ≡ NoMemory
 IsRefusal t (highlights.Action a) fault = fault ≡ NoMemory
 IsRefusal t (highlights.Stop j) fault = IsWhole t → Refuses t j fault
+
+-- What gives a step of the action's view is among what it sees.
+abbrev pub StepsAreSeen : Type 0
+StepsAreSeen = (before : List Deed) (d : Deed) (a : Name) → is_some_step (step_of before d a) ≡ true → is_seen a d ≡ true

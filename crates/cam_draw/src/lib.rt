@@ -13,6 +13,7 @@ mod counts;
 mod deeds;
 mod halts;
 mod heads;
+mod laws;
 mod light;
 mod notes;
 mod picture;
@@ -21,5 +22,6 @@ mod style;
 mod subject;
 mod words;
 
+pub use laws::seen;
 pub use light::Highlight;
 pub use picture::draw_text;

@@ -181,7 +181,7 @@ fn sees(deed: &Deed, action: &Name) -> bool
         | Deed::Call { action: own, .. }
         | Deed::Got { action: own, .. }
         | Deed::AskCommit { action: own, .. }
-        | Deed::AskAbort { action: own } => own == action,
+        | Deed::AskAbort { action: own } => action == own,
         Deed::Commit { action: child } | Deed::Abort { action: child } => action.is_parent(child),
         Deed::Perform { .. }
         | Deed::Bounce { .. }
