@@ -354,6 +354,8 @@ def commands(faults):
         ["inspect"],
         ["upgrade"],
         ["timed"],
+        ["inspect", "files"],
+        ["timed", "files"],
         ["witness", "/".join(["8.1000000000.1000000000"] * 8)],
     ]
     no_forms = [
@@ -385,7 +387,6 @@ def commands(faults):
         ["run", ""],
         ["files"],
         ["files", "run"],
-        ["inspect", "files"],
         ["run", "files", "files"],
     ]
     for words in forms:

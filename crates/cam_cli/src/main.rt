@@ -2,7 +2,8 @@
 //! `cam_run`, which reads a script, runs it over the disks, and writes the report of the run; or it lets threads run a storm over them.
 #![tactic(auto)]
 
-ghost use Rattle.std.specs.Prelude.{◌≡◌, IfOk, length};
+ghost use Rattle.std.specs.Prelude.{◌≡◌, IfOk, length, map, string_bytes};
+ghost use Rattle.cam_cli.specs.Places.{asks_for_files, without_files, IsPlaceFor};
 
 use cam_base::NoMemory;
 use cam_cluster::Servers;
@@ -57,23 +58,39 @@ fn keep_off_streams(rt: &HostRuntime, held: &mut Vec<File>) -> Result<Place, NoM
     Ok(Place::Files)
 }
 
-/// Whether the word `files` stands after words that go over disks.
-fn asks_for_files(rt: &HostRuntime, words: &[String]) -> Result<bool, NoMemory> {
-    match words.split_last() {
-        Some((last, before)) if last.as_str() == "files" => uses_disks(rt.alloc(), before),
-        _ => Ok(false),
+/// Whether the last word is `files`.
+fn asks_for_files(words: &[String]) -> bool
+    ensures { result ≡ asks_for_files (map string_bytes words.now) }
+{
+    match words.last() {
+        Some(last) => last.as_str() == "files",
+        None => false,
     }
 }
 
-/// Where the disks are to be: in files where the word `files` stands after words that go over disks,
-/// where it is taken off, and in memory else. After other words it stays, and they are no form.
+/// Takes the word `files` off the end, whatever stands before it, and tells whether it stood there.
+fn take_files(words: &mut Vec<String>) -> bool
+    ensures asks { result ≡ asks_for_files (map string_bytes words.old.items) }
+    ensures rest { map string_bytes words.new.items ≡ without_files (map string_bytes words.old.items) }
+{
+    let asks = asks_for_files(words);
+    if asks {
+        words.pop();
+    }
+    asks
+}
+
+/// Where the disks are to be, by the words, of which a word `files` at the end is taken off: in files if it stood there and the other
+/// words go over disks, and in memory otherwise.
 fn take_place(
     rt: &HostRuntime,
     words: &mut Vec<String>,
     held: &mut Vec<File>,
-) -> Result<Place, NoMemory> {
-    if asks_for_files(rt, words)? {
-        words.pop();
+) -> Result<Place, NoMemory>
+    ensures rest { map string_bytes words.new.items ≡ without_files (map string_bytes words.old.items) }
+    ensures place { IfOk result (IsPlaceFor (map string_bytes words.old.items)) }
+{
+    if take_files(words) && uses_disks(rt.alloc(), words)? {
         keep_off_streams(rt, held)
     } else {
         Ok(Place::Memory)
