@@ -46,44 +46,54 @@ async function openRecord(packed, why) {
   };
 }
 
-/** The programs in this file, as WebAssembly, in a worker. If a run takes too long, the worker is ended and another one begins. */
+const SECONDS_TO_RUN = 20;
+const HANDS = 3;
+
+/** A worker that has the programs as WebAssembly, and takes one question after another. If a run takes too long, another worker begins. */
+class Hand {
+  waiting = new Map();
+  last = 0;
+
+  constructor(address, compiled) {
+    this.start = () => {
+      this.worker = new Worker(address);
+      this.worker.onmessage = ({ data }) => this.hear(data);
+      this.worker.postMessage(compiled);
+    };
+    this.start();
+  }
+
+  ask(program, words, script) {
+    return new Promise((done, fail) => {
+      const number = ++this.last;
+      this.waiting.set(number, { done, fail, timer: setTimeout(() => this.restart(), 1000 * SECONDS_TO_RUN) });
+      this.worker.postMessage({ number, program, words, script });
+    });
+  }
+
+  hear({ number, answer, fault }) {
+    const { done, fail, timer } = this.waiting.get(number);
+    this.waiting.delete(number);
+    clearTimeout(timer);
+    if (answer) done(answer);
+    else fail(new Error(fault));
+  }
+
+  restart() {
+    this.worker.terminate();
+    const late = [...this.waiting.keys()];
+    this.start();
+    for (const number of late) this.hear({ number, fault: `The run did not end within ${SECONDS_TO_RUN} seconds.` });
+  }
+}
+
+/** Starts the programs that are in this file, in a few workers. */
 async function startEngine({ module, worker }) {
   const compiled = await WebAssembly.compile(await unpacked(module));
   const address = URL.createObjectURL(new Blob([worker], { type: "text/javascript" }));
-  const waiting = new Map();
-  let hand = null;
-  let last = 0;
-
-  const start = () => {
-    hand = new Worker(address);
-    hand.onmessage = ({ data: { number, answer, fault } }) => {
-      const { done, fail, timer } = waiting.get(number);
-      waiting.delete(number);
-      clearTimeout(timer);
-      if (answer) done(answer);
-      else fail(new Error(fault));
-    };
-    hand.postMessage(compiled);
-  };
-  const restart = () => {
-    hand.terminate();
-    for (const { fail, timer } of waiting.values()) {
-      clearTimeout(timer);
-      fail(new Error(`The run did not end within ${SECONDS_TO_RUN} seconds.`));
-    }
-    waiting.clear();
-    start();
-  };
-  start();
-  return (program, words, script) =>
-    new Promise((done, fail) => {
-      const number = ++last;
-      waiting.set(number, { done, fail, timer: setTimeout(restart, 1000 * SECONDS_TO_RUN) });
-      hand.postMessage({ number, program, words, script });
-    });
+  const hands = Array.from({ length: HANDS }, () => new Hand(address, compiled));
+  return (...question) => hands.toSorted((one, other) => one.waiting.size - other.waiting.size)[0].ask(...question);
 }
-
-const SECONDS_TO_RUN = 20;
 
 /** What stands behind the page: how it is asked, and what is said of that. */
 async function openEngine() {
@@ -96,7 +106,7 @@ async function openEngine() {
     try {
       return { ask: await startEngine(contents.engine), about };
     } catch (error) {
-      why = `This browser does not run the programs in this file (${error.message}), so it has the runs of its scenes alone.`;
+      why = `This browser does not run the programs in this file (${error.message}), so only the runs of its scenes are here.`;
     }
   }
   return { ask: await openRecord(contents.record, why), about: `${proved}, made when this file was written. ${page}` };
