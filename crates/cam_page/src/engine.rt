@@ -1,6 +1,5 @@
 //! The answer to a question about a script.
 ghost use Rattle.std.specs.Prelude.{◌≡◌, false, All, IfOk, length};
-ghost use Rattle.cam_run.specs.Storm.{KeepStorm};
 ghost use Rattle.cam_run.specs.Commands.{needs_threads};
 ghost use Rattle.cam_page.specs.Page.{IsTold};
 
@@ -74,9 +73,8 @@ fn disks(alloc: Global) -> Result<Vec<MemoryDisk>, NoMemory>
 /// What `camelot` writes for a command, over streams and disks in memory.
 fn obeyed(alloc: Global, command: &Command, script: &[u8]) -> Result<Reply, NoMemory>
     requires { needs_threads command.now ≡ false }
-    ensures { IfOk result (λ a. IsTold ⟦<MemoryDisk as Disk>⟧.faults
-        (KeepStorm ⟦<MemoryDisk as Disk>⟧.tells ⟦<MemoryDisk as Disk>⟧.moment
-        ⟦<MemoryDisk as Disk>⟧.left_since)
+    ensures { IfOk result (λ a. IsTold ⟦<MemoryDisk as Disk>⟧.tells ⟦<MemoryDisk as Disk>⟧.faults
+        ⟦<MemoryDisk as Disk>⟧.moment ⟦<MemoryDisk as Disk>⟧.left_since
         command.now script.now a.status a.text.items) }
 {
     let mut source = MemorySource::new(script.iter().copied().collect(alloc)?, Vec::new(alloc));

@@ -9,5 +9,5 @@ returns c =
     let fresh : c.new-source.result.plan.faults ≡ 0 = search rules in
     let empty : c.new-sink.result.bytes ≡ [] = search rules in
     let text : c.camelot_alone-status.new.sink.bytes ≡ c.in_ok-text.text.items = search rules in
-    told _ _ _ _ _ _ _ _ _ _ _ _ _ script fresh empty text c.in_ok-disks.ensures.fresh
+    told _ _ _ _ _ _ _ _ _ _ _ _ _ _ _ script fresh empty text c.in_ok-disks.ensures.fresh
     c.camelot_alone-status.ensures.written
