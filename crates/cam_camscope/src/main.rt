@@ -6,7 +6,7 @@ use cam_base::NoMemory;
 use cam_io::{ReadFault, Source, StdSink, StdSource, read_all, write_all};
 use cam_scope_args::{Question, Request, USAGE, VERSION, read_words};
 use cam_script::MOST_BYTES;
-use cam_teller::{Status, TellFault, Told, tell};
+use cam_teller::{ScriptFile, Status, Told, compare, made, tell};
 use std::alloc::Global;
 use std::env;
 use std::fs::File;
@@ -71,11 +71,13 @@ fn complain(rt: &HostRuntime, text: &str) -> Result<(), Failure> {
     }
 }
 
-/// Shows what is told. Where a picture was asked for, a finding goes to standard error: standard
-/// output has a picture or nothing.
+/// Shows what is told. If a picture or a script was asked for, a finding goes to standard error:
+/// standard output has a picture, a script or nothing.
 fn show(rt: &HostRuntime, question: Question<'_>, told: &Told) -> Result<(), Failure> {
     match (question, told.status) {
-        (Question::Draw(_), Status::Finding) => complain(rt, told.text.as_str()),
+        (Question::Draw(_) | Question::Shrink(_) | Question::Sweep(_), Status::Finding) => {
+            complain(rt, told.text.as_str())
+        }
         _ => write(rt, told.text.as_str()),
     }
 }
@@ -87,14 +89,9 @@ fn tell_of(
     file: &str,
     bytes: &[u8],
 ) -> Result<Status, Failure> {
-    match tell(rt.alloc(), question, file, bytes) {
-        Ok(told) => {
-            show(rt, question, &told)?;
-            Ok(told.status)
-        }
-        Err(TellFault::DiskFault) => Err(Failure::NoMemory),
-        Err(TellFault::NoMemory) => Err(Failure::NoMemory),
-    }
+    let told = tell(rt.alloc(), question, file, bytes)?;
+    show(rt, question, &told)?;
+    Ok(told.status)
 }
 
 /// Tells of standard input.
@@ -104,14 +101,36 @@ fn tell_of_input(rt: &HostRuntime, question: Question<'_>) -> Result<Status, Fai
     tell_of(rt, question, "standard input", &bytes)
 }
 
-/// Tells of a file.
-fn tell_of_file(rt: &HostRuntime, question: Question<'_>, file: &str) -> Result<Status, Failure> {
+/// The bytes of a file.
+fn bytes_of_file(rt: &HostRuntime, file: &str) -> Result<Vec<u8>, Failure> {
     let Ok(opened) = File::open(rt, file) else {
         return Err(Failure::Unreadable);
     };
     let mut source = StdSource::new(opened);
-    let bytes = bytes_of(rt.alloc(), &mut source)?;
+    bytes_of(rt.alloc(), &mut source)
+}
+
+/// Tells of a file.
+fn tell_of_file(rt: &HostRuntime, question: Question<'_>, file: &str) -> Result<Status, Failure> {
+    let bytes = bytes_of_file(rt, file)?;
     tell_of(rt, question, file, &bytes)
+}
+
+/// Tells in what the runs of two files differ.
+fn compare_files(rt: &HostRuntime, a: &str, b: &str) -> Result<Status, Failure> {
+    let bytes_a = bytes_of_file(rt, a)?;
+    let bytes_b = bytes_of_file(rt, b)?;
+    let first = ScriptFile {
+        name: a,
+        bytes: &bytes_a,
+    };
+    let second = ScriptFile {
+        name: b,
+        bytes: &bytes_b,
+    };
+    let told = compare(rt.alloc(), &first, &second)?;
+    write(rt, told.text.as_str())?;
+    Ok(told.status)
 }
 
 /// Tells of each file, or of standard input where there is none: a finding in one is one of all.
@@ -128,11 +147,24 @@ fn tell_all(rt: &HostRuntime, question: Question<'_>, files: &[String]) -> Resul
     Ok(status)
 }
 
+/// Writes the script that is made from a seed, of so many steps.
+fn write_made(rt: &HostRuntime, seed: &str, size: &str) -> Result<Status, Failure> {
+    match made(rt.alloc(), seed, size)? {
+        Some(script) => {
+            write(rt, script.as_str())?;
+            Ok(Status::Fine)
+        }
+        None => Err(Failure::WrongWords),
+    }
+}
+
 /// Does what the words ask for.
 fn obey(rt: &HostRuntime) -> Result<Status, Failure> {
     let words = words(rt)?;
     match read_words(&words) {
+        Some(Request::Tell(Question::Compare, [a, b])) => compare_files(rt, a.as_str(), b.as_str()),
         Some(Request::Tell(question, files)) => tell_all(rt, question, files),
+        Some(Request::Gen(seed, size)) => write_made(rt, seed, size),
         Some(Request::Help) => {
             write(rt, USAGE)?;
             Ok(Status::Fine)

@@ -11,7 +11,7 @@ use cam_disk::{Disk, MemoryDisk};
 use cam_io::{MemorySink, MemorySource};
 use cam_run::{Status, camelot_alone};
 use cam_scope_args::{Question, Request};
-use cam_teller::{TellFault, tell};
+use cam_teller::tell;
 use cam_type::{CounterServer, QueueServer, RegisterServer};
 use std::alloc::Global;
 
@@ -107,12 +107,9 @@ fn of_camscope(alloc: Global, words: &[String], script: &[u8]) -> Result<Reply, 
 
 /// What `camscope` tells of a script that it reads from standard input: its status is 1 for a finding.
 fn told(alloc: Global, question: Question<'_>, script: &[u8]) -> Result<Reply, NoMemory> {
-    match tell(alloc, question, "standard input", script) {
-        Ok(told) => Ok(Reply {
-            status: u8::from(told.status == cam_teller::Status::Finding),
-            text: told.text.into_bytes(),
-        }),
-        Err(TellFault::DiskFault) => Err(NoMemory),
-        Err(TellFault::NoMemory) => Err(NoMemory),
-    }
+    let told = tell(alloc, question, "standard input", script)?;
+    Ok(Reply {
+        status: u8::from(told.status == cam_teller::Status::Finding),
+        text: told.text.into_bytes(),
+    })
 }

@@ -1,2 +1,2 @@
 pub mod Forms
-pub mod Options
+pub mod Spelling

@@ -13,6 +13,15 @@ pub enum Question<'a> {
     Shiviz,
     /// Whether the run keeps the script's expectations.
     Check,
+    /// The smallest script by taking lines away, whose report still has this line.
+    Shrink(&'a str),
+    /// To what ends the orders of the lines lead.
+    Orders,
+    /// To what ends one fault more leads, at each place: which faults, and at which nodes, say these
+    /// options.
+    Sweep(&'a [String]),
+    /// In what the runs of two scripts differ.
+    Compare,
 }
 
 /// What a picture lights up, in words.

@@ -1,9 +1,11 @@
 //! The answer to a question by the bytes of a script.
 ghost use Rattle.cam_script.specs.Law.{IsScript};
 
-use crate::fault::TellFault;
+use crate::comparing::ScriptFile;
+use crate::orders::ordered;
 use crate::picture::drawn;
-use crate::running::record_of;
+use crate::smallest::shrunk;
+use crate::sweeping::swept;
 use crate::told::{Status, Told};
 use cam_base::NoMemory;
 use cam_columns::{columns_text, rows_of};
@@ -14,6 +16,7 @@ use cam_scope::{Lines, Scope, scope_of};
 use cam_scope_args::Question;
 use cam_script::{Script, ScriptFault, parse};
 use cam_shiviz::shiviz_text;
+use cam_whatif::record_of;
 use std::alloc::Global;
 
 /// What is told where the script runs to its end.
@@ -47,11 +50,23 @@ fn checked(
     })
 }
 
+/// What is told where one script alone is to be compared.
+fn compared(alloc: Global, file: &str) -> Result<Told, NoMemory> {
+    let mut text = String::new(alloc);
+    text.push_str(file)?;
+    text.push_str(": compare takes two scripts.\n")?;
+    Ok(Told {
+        text,
+        status: Status::Finding,
+    })
+}
+
 /// What is told of a run.
 fn of_run(
     alloc: Global,
     question: Question<'_>,
     file: &str,
+    bytes: &[u8],
     source: &Lines<'_>,
     script: &Script,
     run: &RunRecord,
@@ -66,6 +81,10 @@ fn of_run(
         Question::Draw(lit) => drawn(alloc, lit, file, script, run, &scope),
         Question::Shiviz => Ok(fine(shiviz_text(alloc, script, run, &scope)?)),
         Question::Check => checked(alloc, file, source, script, run, &scope),
+        Question::Shrink(line) => shrunk(alloc, file, bytes, line),
+        Question::Orders => ordered(alloc, file, source, script),
+        Question::Sweep(options) => swept(alloc, file, bytes, source, script, run, options),
+        Question::Compare => compared(alloc, file),
     }
 }
 
@@ -74,13 +93,36 @@ fn of_script(
     alloc: Global,
     question: Question<'_>,
     file: &str,
+    bytes: &[u8],
     source: &Lines<'_>,
     script: &Script,
-) -> Result<Told, TellFault>
+) -> Result<Told, NoMemory>
     requires { IsScript script.now }
 {
     let run = record_of(alloc, script)?;
-    Ok(of_run(alloc, question, file, source, script, &run)?)
+    of_run(alloc, question, file, bytes, source, script, &run)
+}
+
+/// What is told of a script that is refused.
+pub(crate) fn refused(
+    alloc: Global,
+    source: &ScriptFile<'_>,
+    fault: ScriptFault,
+) -> Result<Told, NoMemory> {
+    match fault {
+        ScriptFault::Bad {
+            line,
+            column,
+            cause,
+        } => {
+            let lines = Lines::of(alloc, source.bytes)?;
+            Ok(Told {
+                text: fault_text(alloc, source.name, &lines, line, column, cause)?,
+                status: Status::Finding,
+            })
+        }
+        ScriptFault::NoMemory => Err(NoMemory),
+    }
 }
 
 /// What is told of the bytes of a script, which stand in a file of this name. A script that is
@@ -90,20 +132,10 @@ pub fn tell(
     question: Question<'_>,
     file: &str,
     bytes: &[u8],
-) -> Result<Told, TellFault> {
+) -> Result<Told, NoMemory> {
     let source = Lines::of(alloc, bytes)?;
     match parse(alloc, bytes) {
-        Ok(script) => of_script(alloc, question, file, &source, &script),
-        Err(
-            ScriptFault::Bad {
-                line,
-                column,
-                cause,
-            },
-        ) => Ok(Told {
-            text: fault_text(alloc, file, &source, line, column, cause)?,
-            status: Status::Finding,
-        }),
-        Err(ScriptFault::NoMemory) => Err(TellFault::NoMemory),
+        Ok(script) => of_script(alloc, question, file, bytes, &source, &script),
+        Err(fault) => refused(alloc, &ScriptFile { name: file, bytes }, fault),
     }
 }

@@ -15,4 +15,6 @@ mod scripts;
 #[cfg(test)]
 mod texts;
 #[cfg(test)]
+mod what_if;
+#[cfg(test)]
 mod words;

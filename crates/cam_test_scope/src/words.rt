@@ -7,6 +7,9 @@ use std::test::Fail;
 /// What words ask for, in short: a question of so many files.
 enum Asked {
     Tell(Question<'static>, usize),
+    /// A sweep with so many options, of so many files.
+    Sweep(usize, usize),
+    Gen(&'static str, &'static str),
     Help,
     Version,
     Nothing,
@@ -15,6 +18,11 @@ enum Asked {
 /// Whether this was asked for.
 fn is_asked(wanted: &Asked, found: &Option<Request<'_>>) -> bool {
     match (wanted, found) {
+        (Asked::Sweep(many, count), Some(Request::Tell(Question::Sweep(options), files))) => {
+            options.len() == *many && files.len() == *count
+        }
+        (Asked::Gen(seed, size), Some(Request::Gen(from, long))) => *seed == *from
+            && *size == *long,
         (Asked::Tell(question, count), Some(Request::Tell(asked, files))) => {
             *question == *asked && files.len() == *count
         }
@@ -35,7 +43,7 @@ fn asks_for(alloc: Global, text: &str, wanted: &Asked) -> Result<bool, Fail> {
 }
 
 /// Words, and what they ask for.
-const FORMS: [(&str, Asked); 20] = [
+const FORMS: [(&str, Asked); 29] = [
     ("", Asked::Nothing),
     ("explain", Asked::Tell(Question::Explain, 0)),
     ("explain a.cam", Asked::Tell(Question::Explain, 1)),
@@ -60,6 +68,18 @@ const FORMS: [(&str, Asked); 20] = [
     ("shiviz", Asked::Tell(Question::Shiviz, 0)),
     ("check a.cam b.cam c.cam", Asked::Tell(Question::Check, 3)),
     ("check --strict a.cam", Asked::Nothing),
+    ("gen 7 40", Asked::Gen("7", "40")),
+    ("gen 7", Asked::Nothing),
+    (
+        "shrink --keep line a.cam",
+        Asked::Tell(Question::Shrink("line"), 1),
+    ),
+    ("shrink a.cam", Asked::Nothing),
+    ("orders", Asked::Tell(Question::Orders, 0)),
+    ("sweep --lose --show 2 3 a.cam", Asked::Sweep(4, 1)),
+    ("sweep a.cam --lose", Asked::Nothing),
+    ("compare a.cam b.cam", Asked::Tell(Question::Compare, 2)),
+    ("compare a.cam", Asked::Nothing),
     ("--help", Asked::Help),
     ("--version", Asked::Version),
     ("--version 2", Asked::Nothing),
