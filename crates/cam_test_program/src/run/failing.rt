@@ -4,9 +4,6 @@ ghost use Rattle.std.specs.Prelude.{◌≡◌, IfErr, IfOk, length};
 ghost use Rattle.cam_disk.specs.declared.error.DiskError.TheVariants.{Failed};
 ghost use Rattle.cam_disk.specs.Disk.{FailsWithCause};
 
-mod each_call;
-mod rows;
-
 use super::{Answer, answer_over, check_numbered_answer, source, words};
 use cam_disk::{Disk, DiskError, MemoryDisk, TellingDisk};
 use std::alloc::Global;
